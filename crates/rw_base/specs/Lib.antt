@@ -1,0 +1,8 @@
+-- The words that public contracts rest on.
+pub mod Places
+pub mod Rules
+pub mod Outside
+pub mod Memory
+-- What functions inside promise each other, and laws that callers cite.
+pub mod Bytes
+pub mod Told

@@ -1,0 +1,19 @@
+//! The designs of the VHDL subset: what a text spells, what the compiler makes, and what is simulated.
+//!
+//! It leaves printing, reading and simulating to the crates above, which see a `Design` and its definitions
+//! alone. Begin with `design.rt`, then `expr.rt`.
+#![tactic(auto)]
+
+mod design;
+mod expr;
+mod function;
+mod ident;
+mod process;
+mod stmt;
+
+pub use design::{Design, Item};
+pub use expr::VExpr;
+pub use function::{Function, Var};
+pub use ident::Ident;
+pub use process::Process;
+pub use stmt::{Branch, Test, VStmt};
