@@ -1,0 +1,5 @@
+-- Lemmas that several proofs share.
+pub mod Turns
+pub mod Budgets
+pub mod Exact
+pub mod Forms

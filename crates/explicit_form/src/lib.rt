@@ -1,0 +1,15 @@
+//! The explicit form: sources with written braces, in which each function shows one output and goes on by one case
+//! on the input. This crate reads such a source, judges its names, and makes its design.
+//!
+//! It leaves tokens to `rw_lex`, printing to `vhdl_print`, and every other source to the compiler's front.
+//! The program's one call compiles by it. Begin with `specs/Grammar.antt`, then `form.rt`.
+#![tactic(auto)]
+
+mod form;
+mod read;
+mod unread;
+mod words;
+
+pub use form::{Arm, Data, Form, Function, Ports};
+pub use read::read_form;
+pub use unread::Unread;
