@@ -2,5 +2,6 @@
 pub mod Words
 pub mod Lists
 pub mod Grammar
+pub mod Fit
 -- What functions inside promise each other.
 pub mod Read

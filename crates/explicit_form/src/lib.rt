@@ -6,6 +6,7 @@
 #![tactic(auto)]
 
 mod form;
+mod names;
 mod read;
 mod unread;
 mod words;

@@ -1,0 +1,6 @@
+//! stub
+#![tactic(auto)]
+
+mod machine;
+
+pub use machine::{Machine, State};
