@@ -40,7 +40,7 @@ abbrev pub separator : Token → ℕ
 separator x = if ends_line x then 10 else 32
 
 -- a token and what stands behind it
-abbrev pub with_separator : Token → List ℕ
+unfoldable pub with_separator : Token → List ℕ
 with_separator x = bytes_of x ++ separator x ∷ []
 
 -- the text of tokens
@@ -126,7 +126,7 @@ stmts_tokens at body = joined (map (stmt_tokens at) body)
 -- ---- declarations, processes, and the whole
 
 -- the type of n wires
-abbrev pub vec_tokens : ℕ → List Token
+unfoldable pub vec_tokens : ℕ → List Token
 vec_tokens n = t.Mark m.StdLogicVector ∷ range_tokens (n - 1) 0
 
 -- a declaration of a variable or a signal
@@ -147,41 +147,48 @@ abbrev pub function_head : Function → List Token
 function_head f =
     t.Mark m.Function ∷ name_token f.name ∷ (params_tokens f.params ++ (marks (m.Return ∷ m.StdLogicVector ∷ m.Is ∷ []) ++ joined (map (var_tokens m.Variable) f.vars)))
 
+-- the end of a function of this name, from the `;` behind what it returns
+abbrev pub function_end : List ℕ → List Token
+function_end name = t.Mark m.Semicolon ∷ t.Mark m.End ∷ name_token name ∷ t.Mark m.Semicolon ∷ []
+
 -- a function from `begin` to its end
 abbrev pub function_tail : Function → List Token
-function_tail f =
-    t.Mark m.Begin ∷ (stmts_tokens side.Function f.body ++ t.Mark m.Return ∷ (expr_tokens f.result ++ t.Mark m.Semicolon ∷ t.Mark m.End ∷ name_token f.name ∷ t.Mark m.Semicolon ∷ []))
+function_tail f = t.Mark m.Begin ∷ (stmts_tokens side.Function f.body ++ t.Mark m.Return ∷ (expr_tokens f.result ++ function_end f.name))
 
 -- the tokens of what is declared in the architecture
 abbrev pub item_tokens : Item → List Token
 item_tokens (Signal v) = var_tokens m.Signal v
 item_tokens (Declared f) = function_head f ++ function_tail f
 
+-- names with `,` between two
+abbrev pub names_tokens : List (List ℕ) → List Token
+names_tokens names = separated m.Comma (map (λ (name : List ℕ). name_token name ∷ []) names)
+
 -- the tokens of a process
 abbrev pub process_tokens : Process → List Token
 process_tokens p =
-    marks (m.Process ∷ m.Opens ∷ []) ++ (separated m.Comma (map (λ (name : List ℕ). name_token name ∷ []) p.sensitive)
+    marks (m.Process ∷ m.Opens ∷ []) ++ (names_tokens p.sensitive
     ++ (marks (m.Closes ∷ m.Begin ∷ []) ++ (stmts_tokens side.Process p.body ++ marks (m.End ∷ m.Process ∷ m.Semicolon ∷ []))))
 
 -- the library and the package that every text uses
-abbrev pub library_marks : List Mark
+unfoldable pub library_marks : List Mark
 library_marks = m.Library ∷ m.Ieee ∷ m.Semicolon ∷ m.Use ∷ m.Ieee ∷ m.Dot ∷ m.StdLogic1164 ∷ m.Dot ∷ m.All ∷ m.Semicolon ∷ []
 
 -- the entity up to the type of `inp`
-abbrev pub entity_marks : List Mark
+unfoldable pub entity_marks : List Mark
 entity_marks =
     m.Entity ∷ m.Rewire ∷ m.Is ∷ m.Port ∷ m.Opens ∷ m.Clk ∷ m.Colon ∷ m.In ∷ m.StdLogic ∷ m.Semicolon ∷ m.Rst ∷ m.Colon ∷ m.In ∷ m.StdLogic ∷ m.Semicolon ∷ m.Inp ∷ m.Colon ∷ m.In ∷ []
 
 -- from there to the type of `outp`
-abbrev pub outp_marks : List Mark
+unfoldable pub outp_marks : List Mark
 outp_marks = m.Semicolon ∷ m.Outp ∷ m.Colon ∷ m.Out ∷ []
 
 -- the end of the entity and the head of the architecture
-abbrev pub architecture_marks : List Mark
+unfoldable pub architecture_marks : List Mark
 architecture_marks = m.Closes ∷ m.Semicolon ∷ m.End ∷ m.Rewire ∷ m.Semicolon ∷ m.Architecture ∷ m.Behaviour ∷ m.Of ∷ m.Rewire ∷ m.Is ∷ []
 
 -- what stands before the declarations
-abbrev pub head_tokens : ℕ → ℕ → List Token
+unfoldable pub head_tokens : ℕ → ℕ → List Token
 head_tokens inp outp = marks library_marks ++ (marks entity_marks ++ (vec_tokens inp ++ (marks outp_marks ++ (vec_tokens outp ++ marks architecture_marks))))
 
 -- the tokens of a design

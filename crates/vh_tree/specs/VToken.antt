@@ -75,7 +75,7 @@ bytes_of (t.Number n) = decimal n
 bytes_of (t.Bits bits) = 34 ∷ (map letter bits ++ 34 ∷ [])
 
 -- the token of a name of a design: a port has a token of its own
-abbrev pub name_token : List ℕ → Token
+unfoldable pub name_token : List ℕ → Token
 name_token name =
     if bytes_eq name (codes "inp") then t.Mark m.Inp
     else (if bytes_eq name (codes "outp") then t.Mark m.Outp
