@@ -1,0 +1,1 @@
+-- The words that public contracts rest on stand in `vh_tree`.
