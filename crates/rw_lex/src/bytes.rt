@@ -1,5 +1,5 @@
 // The classes of bytes, and how long a run of bytes of one kind is.
-ghost use Rattle.std.specs.Prelude.{◌≡◌};
+ghost use Rattle.std.specs.Prelude.{◌≡◌, ◌≤◌, length};
 ghost use Rattle.std.specs.List.{prefix_len};
 ghost use Rattle.rw_lex.specs.Bytes as spec;
 
@@ -65,7 +65,8 @@ fn is_in(kind: Run, b: u8) -> bool
 
 /// How many bytes the run of this kind has that the bytes begin with.
 pub fn run_len(kind: Run, bytes: &[u8]) -> usize
-    ensures { result ≡ prefix_len (spec.is_in kind) bytes.now }
+    ensures value { result ≡ prefix_len (spec.is_in kind) bytes.now }
+    ensures within { result ≤ length bytes.now }
 {
     for (i, b) in bytes.iter().enumerate() {
         if !is_in(kind, *b) {

@@ -2,6 +2,7 @@
 #![tactic(auto)]
 
 mod bytes;
+mod piece;
 mod token;
 
 pub use bytes::{Class, Run};
