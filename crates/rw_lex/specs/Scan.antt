@@ -108,13 +108,7 @@ tokens_within (suc n) at line (b ∷ bs) =
 unfoldable pub tokens_from : Place → ℕ → List ℕ → Result (List Token) Refusal
 tokens_from at line bytes = tokens_within (length bytes) at line bytes
 
--- an answer of the code is what is said, but for want of memory
-abbrev pub Gives : {X : Type 0} → (X → List Token) → Result X Fail → Result (List Token) Refusal → Type 0
-Gives view (Ok x) found = found ≡ Ok (view x)
-Gives view (Err (fail.Refused refusal)) found = found ≡ Err refusal
-Gives view (Err fail.OutOfMemory) found = Unit {0}
-
--- the same of what a piece gives
+-- a call refuses exactly by this rule, unless memory ran out
 abbrev pub FailsBy : {X : Type 0} → Result X Fail → Option Refusal → Type 0
 FailsBy (Ok x) found = found ≡ None
 FailsBy (Err (fail.Refused refusal)) found = found ≡ Some refusal

@@ -3,7 +3,9 @@
 
 mod bytes;
 mod piece;
+mod scan;
 mod token;
 
 pub use bytes::{Class, Run};
+
 pub use token::{Token, TokenKind};

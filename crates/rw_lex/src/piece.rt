@@ -1,5 +1,5 @@
 // The piece that bytes begin with: a gap or a token, as long as it can be.
-ghost use Rattle.std.specs.Prelude.{◌≡◌, ◌≤◌, IfSome, length};
+ghost use Rattle.std.specs.Prelude.{◌≡◌, ◌<◌, ◌≤◌, IfSome, length};
 ghost use Rattle.std.specs.List.{prefix_len};
 ghost use Rattle.rw_lex.specs.Bytes.{is_in};
 ghost use Rattle.rw_lex.specs.Scan as spec;
@@ -74,7 +74,9 @@ fn opens_comment(bytes: &[u8]) -> bool
 // A bracket, comma, semicolon or backquote, or a block comment.
 #[tactic(auto, unfolding(crate::specs::Scan::special_at))]
 fn special_at(bytes: &[u8]) -> Piece
-    ensures { result ≡ spec.special_at bytes.now }
+    requires some { 0 < length bytes.now }
+    ensures value { result ≡ spec.special_at bytes.now }
+    ensures within { spec.len_of result ≤ length bytes.now }
 {
     if !opens_comment(bytes) {
         return Piece::Token(TokenKind::Special, 1);
@@ -100,7 +102,8 @@ fn all_dashes(piece: &[u8]) -> bool
 // An operator, or a line comment.
 #[tactic(auto, unfolding(crate::specs::Scan::symbols_at))]
 fn symbols_at(bytes: &[u8]) -> Piece
-    ensures { result ≡ spec.symbols_at (prefix_len (is_in run.Symbols) bytes.now) bytes.now }
+    ensures value { result ≡ spec.symbols_at (prefix_len (is_in run.Symbols) bytes.now) bytes.now }
+    ensures within { spec.len_of result ≤ length bytes.now }
 {
     let len = run_len(Run::Symbols, bytes);
     let (piece, behind) = bytes.split_at(len);
@@ -167,7 +170,8 @@ fn word_kind(word: &[u8]) -> TokenKind
 // A variable, a constructor or a keyword.
 #[tactic(auto, unfolding(crate::specs::Scan::word_at))]
 fn word_at(bytes: &[u8]) -> Piece
-    ensures { result ≡ spec.word_at (prefix_len (is_in run.Word) bytes.now) bytes.now }
+    ensures value { result ≡ spec.word_at (prefix_len (is_in run.Word) bytes.now) bytes.now }
+    ensures within { spec.len_of result ≤ length bytes.now }
 {
     let len = run_len(Run::Word, bytes);
     Piece::Token(word_kind(&bytes[..len]), len)
@@ -176,7 +180,8 @@ fn word_at(bytes: &[u8]) -> Piece
 /// The piece that these bytes begin with.
 #[tactic(auto, unfolding(crate::specs::Scan::piece_at))]
 pub fn piece_at(bytes: &[u8]) -> Piece
-    ensures { result ≡ spec.piece_at bytes.now }
+    ensures value { result ≡ spec.piece_at bytes.now }
+    ensures within { spec.len_of result ≤ length bytes.now }
 {
     let [b, ..] = bytes else {
         return Piece::Nothing;
