@@ -23,7 +23,16 @@ class_of b =
     else (if is_between 65 90 b then class.Capital
     else (if is_between 48 57 b then class.Digit else (if is_among (codes "!#$%&*+./<=>?@\\^|-~:") b then class.Symbol else (if is_among (codes "(),;`{}") b then class.Special else class.Other)))))
 
--- letters, underscore and digits
+-- letters and the underscore; capital letters; letters, underscore and digits; digits; symbols
+abbrev pub is_letter_class : Class → Bool
+is_letter_class class.Small = true
+is_letter_class class.Capital = true
+is_letter_class _ = false
+
+abbrev pub is_capital_class : Class → Bool
+is_capital_class class.Capital = true
+is_capital_class _ = false
+
 abbrev pub is_word_class : Class → Bool
 is_word_class class.Small = true
 is_word_class class.Capital = true

@@ -16,7 +16,7 @@ use Rattle.rw_lex.specs.declared.bytes.Run.TheVariants as run
 use Rattle.rw_lex.specs.declared.token.TokenKind.{TokenKind}
 use Rattle.rw_lex.specs.declared.token.TokenKind.TheVariants as kind
 use Rattle.rw_lex.specs.declared.token.Token.{Token}
-use Rattle.rw_lex.specs.Bytes.{class_of, IsRun}
+use Rattle.rw_lex.specs.Bytes.{class_of, is_letter_class, is_capital_class, IsRun}
 
 -- two bytes that open a block comment, and two that close one
 abbrev pub opens : ℕ → ℕ → Bool
@@ -63,20 +63,11 @@ is_keyword piece = is_word_of declaration_words piece || is_word_of inner_words 
 -- a word begins with a letter or an underscore
 abbrev pub begins_word : List ℕ → Bool
 begins_word [] = false
-begins_word (b ∷ bs) = begins (class_of b)
-  where
-    begins : Class → Bool
-    begins class.Small = true
-    begins class.Capital = true
-    begins _ = false
+begins_word (b ∷ bs) = is_letter_class (class_of b)
 
 abbrev pub begins_capital : List ℕ → Bool
 begins_capital [] = false
-begins_capital (b ∷ bs) = begins (class_of b)
-  where
-    begins : Class → Bool
-    begins class.Capital = true
-    begins _ = false
+begins_capital (b ∷ bs) = is_capital_class (class_of b)
 
 -- what a word is
 abbrev pub word_kind : List ℕ → TokenKind
