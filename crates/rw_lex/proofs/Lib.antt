@@ -2,3 +2,4 @@
 pub mod Tools
 pub mod Runs
 pub mod Comments
+pub mod Pieces
