@@ -1,0 +1,5 @@
+-- Lemmas: tools, runs, block comments, pieces, and whole sources.
+pub mod Tools
+pub mod Runs
+pub mod Comments
+pub mod Pieces

@@ -1,0 +1,128 @@
+-- The token list of a source, and the rule that a source without one breaks (Haskell 2010 Report, sections 2.2
+-- to 2.4, in this project's profile). A source is pieces, one after another: gaps and tokens, each of them as long
+-- as it can be.
+use Rattle.std.specs.Prelude.{◌≡◌, ◌≢◌, ℕ, suc, ◌<◌, Bool, true, false, not, ◌||◌, ◌&&◌, nat_eq, nat_le, List, [], ◌∷◌, ◌++◌, length, codes, Option, Some, None, Result, Ok, Err, if◌then◌else◌}
+use Rattle.std.specs.List.{list_all}
+use Rattle.std.specs.Str.{bytes_eq}
+use Rattle.rw_base.specs.declared.place.Place.{Place}
+use Rattle.rw_base.specs.declared.fail.Fail.{Fail}
+use Rattle.rw_base.specs.declared.fail.Fail.TheVariants as fail
+use Rattle.rw_base.specs.declared.fail.Refusal.{Refusal}
+use Rattle.rw_base.specs.declared.rule.Rule.TheVariants.{E02, E03}
+use Rattle.rw_base.specs.Places.{place_after}
+use Rattle.rw_lex.specs.declared.bytes.Class.{Class}
+use Rattle.rw_lex.specs.declared.bytes.Class.TheVariants as class
+use Rattle.rw_lex.specs.declared.bytes.Run.TheVariants as run
+use Rattle.rw_lex.specs.declared.token.TokenKind.{TokenKind}
+use Rattle.rw_lex.specs.declared.token.TokenKind.TheVariants as kind
+use Rattle.rw_lex.specs.declared.token.Token.{Token}
+use Rattle.rw_lex.specs.Bytes.{class_of, is_letter_class, is_capital_class, IsRun}
+
+-- two bytes that open a block comment, and two that close one
+abbrev pub opens : ℕ → ℕ → Bool
+opens a b = nat_eq a 123 && nat_eq b 45
+
+abbrev pub closes : ℕ → ℕ → Bool
+closes a b = nat_eq a 45 && nat_eq b 125
+
+-- the bytes begin with two that open a block comment
+abbrev pub begins_comment : List ℕ → Bool
+begins_comment (a ∷ b ∷ bs) = opens a b
+begins_comment bs = false
+
+-- the bytes begin with two that open or close one
+abbrev pub begins_mark : List ℕ → Bool
+begins_mark (a ∷ b ∷ bs) = opens a b || closes a b
+begins_mark bs = false
+
+-- bytes that close so many open block comments, the last of them at their end; within, `{-` opens a further one
+pub data Closes : ℕ → List ℕ → Type 0 where
+  the_last : Closes 1 (45 ∷ 125 ∷ [])
+  one_less : (n : ℕ) (bs : List ℕ) → Closes (suc n) bs → Closes (suc (suc n)) (45 ∷ 125 ∷ bs)
+  one_more : (n : ℕ) (bs : List ℕ) → Closes (suc n) bs → Closes n (123 ∷ 45 ∷ bs)
+  another : (n b : ℕ) (bs : List ℕ) → begins_mark (b ∷ bs) ≡ false → Closes n bs → Closes n (b ∷ bs)
+
+-- two dashes or more
+abbrev pub is_dashes : List ℕ → Bool
+is_dashes piece = list_all (nat_eq 45) piece && nat_le 2 (length piece)
+
+-- the reserved words: those that begin declarations, and the others
+abbrev pub declaration_words : List (List ℕ)
+declaration_words = codes "class" ∷ codes "data" ∷ codes "default" ∷ codes "foreign" ∷ codes "import" ∷ codes "infix" ∷ codes "infixl" ∷ codes "infixr" ∷ codes "instance" ∷ codes "newtype" ∷ codes "type" ∷ []
+
+abbrev pub inner_words : List (List ℕ)
+inner_words = codes "_" ∷ codes "case" ∷ codes "deriving" ∷ codes "do" ∷ codes "else" ∷ codes "if" ∷ codes "in" ∷ codes "let" ∷ codes "module" ∷ codes "of" ∷ codes "then" ∷ codes "where" ∷ []
+
+abbrev pub is_word_of : List (List ℕ) → List ℕ → Bool
+is_word_of [] piece = false
+is_word_of (word ∷ words) piece = bytes_eq piece word || is_word_of words piece
+
+abbrev pub is_keyword : List ℕ → Bool
+is_keyword piece = is_word_of declaration_words piece || is_word_of inner_words piece
+
+-- a word begins with a letter or an underscore
+abbrev pub begins_word : List ℕ → Bool
+begins_word [] = false
+begins_word (b ∷ bs) = is_letter_class (class_of b)
+
+abbrev pub begins_capital : List ℕ → Bool
+begins_capital [] = false
+begins_capital (b ∷ bs) = is_capital_class (class_of b)
+
+-- what a word is
+abbrev pub word_kind : List ℕ → TokenKind
+word_kind piece = if begins_capital piece then kind.Constructor else (if is_keyword piece then kind.Keyword else kind.Variable)
+
+-- a gap (no kind) or a token, as long as it can be, before the rest of the source
+pub data IsPiece : Option TokenKind → List ℕ → List ℕ → Type 0 where
+  a_white : (b : ℕ) (rest : List ℕ) → class_of b ≡ class.White → IsPiece None (b ∷ []) rest
+  a_line_comment : (dashes line rest : List ℕ) → is_dashes dashes ≡ true → IsRun run.Symbols dashes (line ++ rest) → IsRun run.Line line rest → IsPiece None (dashes ++ line) rest
+  a_block_comment : (inside rest : List ℕ) → Closes 1 inside → IsPiece None (123 ∷ 45 ∷ inside) rest
+  a_word : (piece rest : List ℕ) → begins_word piece ≡ true → IsRun run.Word piece rest → IsPiece (Some (word_kind piece)) piece rest
+  a_number : (piece rest : List ℕ) → piece ≢ [] → IsRun run.Digits piece rest → IsPiece (Some kind.Number) piece rest
+  an_operator : (piece rest : List ℕ) → piece ≢ [] → is_dashes piece ≡ false → IsRun run.Symbols piece rest → IsPiece (Some kind.Operator) piece rest
+  a_special : (b : ℕ) (rest : List ℕ) → class_of b ≡ class.Special → begins_comment (b ∷ rest) ≡ false → IsPiece (Some kind.Special) (b ∷ []) rest
+
+-- the token of a piece that stands behind these bytes; `line` is the line of the token before it, 0 if there is none
+abbrev pub token_of : TokenKind → List ℕ → Place → ℕ → Token
+token_of kind piece at line = record { kind = kind; text = piece; at = at; first = not (nat_eq at.line line) }
+
+-- what stands behind `front` is pieces, and these are its tokens
+pub data IsTokensBehind : (front : List ℕ) (line : ℕ) (bytes : List ℕ) (tokens : List Token) → Type 0 where
+  the_end : (front : List ℕ) (line : ℕ) → IsTokensBehind front line [] []
+  a_gap : (front piece rest : List ℕ) (line : ℕ) (tokens : List Token) → IsPiece None piece rest → IsTokensBehind (front ++ piece) line rest tokens → IsTokensBehind front line (piece ++ rest) tokens
+  a_token : (front piece rest : List ℕ) (line : ℕ) (kind : TokenKind) (tokens : List Token) → IsPiece (Some kind) piece rest → IsTokensBehind (front ++ piece) (place_after front).line rest tokens
+      → IsTokensBehind front line (piece ++ rest) (token_of kind piece (place_after front) line ∷ tokens)
+
+-- the token list of a source
+abbrev pub IsTokenList : (bytes : List ℕ) → (tokens : List Token) → Type 0
+IsTokenList bytes tokens = IsTokensBehind [] 0 bytes tokens
+
+-- neither a gap nor a token starts here
+abbrev pub StartsNoPiece : List ℕ → Type 0
+StartsNoPiece bytes = (kind : Option TokenKind) (piece rest : List ℕ) → IsPiece kind piece rest → piece ++ rest ≢ bytes
+
+-- no first part of these bytes closes an open block comment, so it goes on to the end of the source
+abbrev pub ClosesNever : List ℕ → Type 0
+ClosesNever bytes = (inside rest : List ℕ) → Closes 1 inside → inside ++ rest ≢ bytes
+
+-- pieces stand behind `front`, and then something that breaks this rule at this place
+pub data BreaksBehind : (front bytes : List ℕ) (refusal : Refusal) → Type 0 where
+  not_a_token : (front : List ℕ) (b : ℕ) (rest : List ℕ) → begins_comment (b ∷ rest) ≡ false → StartsNoPiece (b ∷ rest) → BreaksBehind front (b ∷ rest) (record { rule = E02; place = place_after front })
+  not_closed : (front rest : List ℕ) → ClosesNever rest → BreaksBehind front (123 ∷ 45 ∷ rest) (record { rule = E03; place = place_after front })
+  further_on : (front piece rest : List ℕ) (kind : Option TokenKind) (refusal : Refusal) → IsPiece kind piece rest → BreaksBehind (front ++ piece) rest refusal → BreaksBehind front (piece ++ rest) refusal
+
+-- the rule that a source without a token list breaks, and where
+abbrev pub Breaks : (bytes : List ℕ) → (refusal : Refusal) → Type 0
+Breaks bytes refusal = BreaksBehind [] bytes refusal
+
+-- what a refusal says, if the answer is one
+abbrev pub IfRefused : {X : Type 0} → Result X Fail → (Refusal → Type 0) → Type 0
+IfRefused (Err (fail.Refused refusal)) says = says refusal
+IfRefused _ says = Unit {0}
+
+-- the answer is this list of tokens or this refusal, unless memory ran out
+abbrev pub Answers : {X : Type 0} → (X → List Token) → Result X Fail → Result (List Token) Refusal → Type 0
+Answers view (Ok x) found = found ≡ Ok (view x)
+Answers view (Err (fail.Refused refusal)) found = found ≡ Err refusal
+Answers view (Err fail.OutOfMemory) found = Unit {0}
