@@ -1,1 +1,5 @@
--- The words that public contracts rest on.
+-- The words that public contracts rest on: what a design means.
+pub mod Bits
+pub mod Functions
+pub mod DeltaCycle
+pub mod Bench

@@ -10,6 +10,7 @@ mod function;
 mod ident;
 mod process;
 mod stmt;
+mod wire;
 
 pub use design::{Design, Item};
 pub use expr::VExpr;
@@ -17,3 +18,4 @@ pub use function::{Function, Var};
 pub use ident::Ident;
 pub use process::Process;
 pub use stmt::{Branch, Test, VStmt};
+pub use wire::{Held, State, Wire};
