@@ -3,3 +3,4 @@ pub mod Bits
 pub mod Functions
 pub mod DeltaCycle
 pub mod Bench
+pub mod StaticRules
