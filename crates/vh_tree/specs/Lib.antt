@@ -4,3 +4,5 @@ pub mod Functions
 pub mod DeltaCycle
 pub mod Bench
 pub mod StaticRules
+-- Laws of these words, which proofs above cite.
+pub mod Equations
