@@ -6,3 +6,4 @@ pub mod Bench
 pub mod StaticRules
 -- Laws of these words, which proofs above cite.
 pub mod Equations
+pub mod Induction
