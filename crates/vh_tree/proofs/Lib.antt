@@ -1,0 +1,6 @@
+-- Lemmas: on tests, on trees, and then the laws.
+pub mod Tests
+pub mod Commute
+pub mod Swaps
+pub mod Apart
+pub mod Orders
