@@ -4,3 +4,5 @@ pub mod Commute
 pub mod Swaps
 pub mod Apart
 pub mod Orders
+pub mod Settling
+pub mod FirstBroken

@@ -7,3 +7,4 @@ pub mod StaticRules
 -- Laws of these words, which proofs above cite.
 pub mod Equations
 pub mod Induction
+pub mod Laws
