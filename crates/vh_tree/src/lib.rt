@@ -4,18 +4,24 @@
 //! alone. Begin with `design.rt`, then `expr.rt`.
 #![tactic(auto)]
 
+mod clock;
 mod design;
 mod expr;
 mod function;
 mod ident;
+mod laws;
 mod process;
 mod stmt;
 mod token;
+mod wire;
 
+pub use clock::rising;
 pub use design::{Design, Item};
 pub use expr::VExpr;
 pub use function::{Function, Var};
 pub use ident::Ident;
+pub use laws::{first_broken_law, order_law, settling_law};
 pub use process::Process;
 pub use stmt::{Branch, Test, VStmt};
 pub use token::{Mark, Side, Token};
+pub use wire::{Held, State, Wire};

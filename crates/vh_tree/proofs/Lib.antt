@@ -1,0 +1,8 @@
+-- Lemmas: on tests, on trees, and then the laws.
+pub mod Tests
+pub mod Commute
+pub mod Swaps
+pub mod Apart
+pub mod Orders
+pub mod Settling
+pub mod FirstBroken
