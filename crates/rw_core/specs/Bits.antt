@@ -57,10 +57,10 @@ width_within types (suc depth) ty = shape_width (width_within types depth) (cons
 abbrev pub width_of : List DataTy → ℕ → ℕ
 width_of types ty = width_within types (suc ty) ty
 
--- the lowest t bits of a number, most significant first
+-- the lowest t bits of a number, most significant first: the last one tells whether the number is odd
 abbrev pub binary : ℕ → ℕ → List Bool
 binary zero n = []
-binary (suc t) n = nat_eq (n / 2 ^ t % 2) 1 ∷ binary t n
+binary (suc t) n = binary t (n / 2) ++ nat_eq (n % 2) 1 ∷ []
 
 -- zeros fill up on the right
 abbrev pub padded : ℕ → List Bool → List Bool

@@ -1,0 +1,6 @@
+//! Widths, encodings and decodings of the values of closed data types.
+#![tactic(auto)]
+
+mod width;
+
+pub use width::tag_bits;
