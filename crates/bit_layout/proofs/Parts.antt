@@ -75,6 +75,8 @@ pub first_put : (types : List DataTy) → IsTable types → (ty : ℕ) (tys : Li
 first_put types table ty tys v vs bits here fill =
     let w = width_of types ty in
     let len : length (encoding types ty v) ≡ w = length-encoding types table ty v here.0 in
-    let r : padded (length bits - w) (encodings types tys vs) ≡ drop w bits = ap (λ n. padded n (encodings types tys vs)) (sym (length-drop w bits)) ∙ fill.1 in
-    ((here.0, fill.0), padded-append (length bits) (encoding types ty v) (encodings types tys vs) ∙ ap (λ n. encoding types ty v ++ padded (length bits - n) (encodings types tys vs)) len
-        ∙ ap (λ front. front ++ padded (length bits - w) (encodings types tys vs)) here.1 ∙ ap (λ back. take w bits ++ back) r ∙ take-append-drop w bits)
+    let r : padded (length bits - w) (encodings types tys vs) ≡ drop w bits = ap (λ n. padded n (encodings types tys vs)) (sym (length-drop w bits)) ∙ fill.1 in (
+      (here.0, fill.0),
+      padded-append (length bits) (encoding types ty v) (encodings types tys vs) ∙ ap (λ n. encoding types ty v ++ padded (length bits - n) (encodings types tys vs)) len
+          ∙ ap (λ front. front ++ padded (length bits - w) (encodings types tys vs)) here.1 ∙ ap (λ back. take w bits ++ back) r ∙ take-append-drop w bits,
+    )

@@ -16,8 +16,8 @@ pub power_from-enough : (steps t n : ℕ) → n ≤ 2 ^ (t + steps) → n ≤ 2 
 power_from-enough zero t n h = grind arith
 power_from-enough (suc steps) t n h =
     elim (nat_le n (2 ^ t)) as (λ b. nat_le n (2 ^ t) ≡ b → n ≤ 2 ^ cond b t (power_from steps (t + 1) n)) [
-      true ↦ (λ e. grind (arith, nat_tests))
-    | false ↦ (λ e. let r : t + 1 + steps ≡ t + suc steps = omega arith in let g : n ≤ 2 ^ (t + 1 + steps) = rw r h in power_from-enough steps (t + 1) n g)
+      | true ↦ (λ e. grind (arith, nat_tests))
+      | false ↦ (λ e. let r : t + 1 + steps ≡ t + suc steps = omega arith in let g : n ≤ 2 ^ (t + 1 + steps) = rw r h in power_from-enough steps (t + 1) n g)
     ] refl
 
 -- and no lesser one from t on is
@@ -25,8 +25,8 @@ pub power_from-least : (steps t n s : ℕ) → t ≤ s → n ≤ 2 ^ s → power
 power_from-least zero t n s low h = low
 power_from-least (suc steps) t n s low h =
     elim (nat_le n (2 ^ t)) as (λ b. nat_le n (2 ^ t) ≡ b → cond b t (power_from steps (t + 1) n) ≤ s) [
-      true ↦ (λ e. low)
-    | false ↦ (λ e. let g : t + 1 ≤ s = grind (arith, nat_tests) in power_from-least steps (t + 1) n s g h)
+      | true ↦ (λ e. low)
+      | false ↦ (λ e. let g : t + 1 ≤ s = grind (arith, nat_tests) in power_from-least steps (t + 1) n s g h)
     ] refl
 
 pub tag_width-enough : (n : ℕ) → n ≤ 2 ^ tag_width n
@@ -46,6 +46,6 @@ tag_width-is n t h least =
 pub power_least : (n t : ℕ) → 2 ^ t < n → (s : ℕ) → n ≤ 2 ^ s → t + 1 ≤ s
 power_least n t h s g =
     elim (nat_le s t) as (λ b. nat_le s t ≡ b → t + 1 ≤ s) [
-      true ↦ (λ e. let le : s ≤ t = grind (arith, nat_tests) in let p : 2 ^ s ≤ 2 ^ t = pow-le-pow_right (omega arith) le in absurd (omega arith))
-    | false ↦ (λ e. grind (arith, nat_tests))
+      | true ↦ (λ e. let le : s ≤ t = grind (arith, nat_tests) in let p : 2 ^ s ≤ 2 ^ t = pow-le-pow_right (omega arith) le in absurd (omega arith))
+      | false ↦ (λ e. grind (arith, nat_tests))
     ] refl

@@ -2,7 +2,7 @@
 use Rattle.std.proofs.Common.{◌≡◌, ℕ, ◌+◌, ◌-◌, ◌*◌, ◌<◌, ◌≤◌, ◌^◌, arith, refl, sym, ap, ◌∙◌}
 use Rattle.rw_core.specs.Bits.{tag_width}
 use Rattle.bit_layout.proofs.Tags.{tag_width-is, power_least, power_more}
-use Rattle.bit_layout.proofs.width.tag_bits.Goals as goal
+use Rattle.bit_layout.proofs.widths.tag_bits.Goals as goal
 
 pub returns-then-n-eq1-clause-value : goal.returns-then-n-eq1-clause-value
 returns-then-n-eq1-clause-value c = sym (tag_width-is c.args.n 0 (omega arith) (λ s h. omega arith))
