@@ -3,3 +3,4 @@ pub mod Tools
 pub mod Runs
 pub mod Comments
 pub mod Pieces
+pub mod Sources

@@ -211,3 +211,42 @@ there_in class.Other b bs e = (no_comment b bs e, no_piece (b ∷ bs) (class_aga
 pub piece_there : (b : ℕ) (bs : List ℕ) → There (b ∷ bs) (piece_at (b ∷ bs))
 unfolding piece_at
 piece_there b bs = there_in (class_of b) b bs refl
+
+-- ---- where no piece starts, none is found
+pub nothing_again : (b : ℕ) (rest : List ℕ) → begins_comment (b ∷ rest) ≡ false → StartsNoPiece (b ∷ rest) → piece_at (b ∷ rest) ≡ p.Nothing
+nothing_again b rest c s = of (piece_at (b ∷ rest)) (piece_there b rest)
+  where
+    of : (piece : Piece) → There (b ∷ rest) piece → piece ≡ p.Nothing
+    of (p.Gap n) t = absurd (s None (take n (b ∷ rest)) (drop n (b ∷ rest)) t.1 (take-append-drop n (b ∷ rest)))
+    of (p.Token kind n) t = absurd (s (Some kind) (take n (b ∷ rest)) (drop n (b ∷ rest)) t.1 (take-append-drop n (b ∷ rest)))
+    of p.Unclosed t = let e : begins_comment (b ∷ rest) ≡ true = ap begins_comment t.1 in absurd (cc)
+    of p.Nothing t = refl
+
+not_found : (rest : List ℕ) (found : Option ℕ) → closing_len 1 0 rest ≡ found → ClosesNever rest → commented found ≡ p.Unclosed
+not_found rest None e never = refl
+not_found rest (Some n) e never = absurd (never (take n rest) (drop n rest) (closes_there rest n e) (take-append-drop n rest))
+
+open_again : (rest : List ℕ) → ClosesNever rest → special_at (123 ∷ 45 ∷ rest) ≡ p.Unclosed
+unfolding special_at
+open_again rest never = not_found rest (closing_len 1 0 rest) refl never
+
+pub unclosed_again : (rest : List ℕ) → ClosesNever rest → piece_at (123 ∷ 45 ∷ rest) ≡ p.Unclosed
+unclosed_again rest never = class_again class.Special 123 (45 ∷ rest) refl ∙ open_again rest never
+
+-- ---- no piece is empty
+word_some : (piece : List ℕ) → begins_word piece ≡ true → 0 < length piece
+word_some [] e = absurd (cc)
+word_some (b ∷ piece) e = omega arith
+
+list_some : (piece : List ℕ) → piece ≢ [] → 0 < length piece
+list_some [] e = absurd (e refl)
+list_some (b ∷ piece) e = omega arith
+
+pub piece_some : {kind : Option TokenKind} {piece rest : List ℕ} → IsPiece kind piece rest → 0 < length piece
+piece_some (a_white b rest e) = omega arith
+piece_some (a_line_comment dashes line rest d r l) = let some = list_some dashes (dashes_some dashes d) in omega (arith, length-append dashes line)
+piece_some (a_block_comment inside rest d) = omega arith
+piece_some (a_word piece rest e r) = word_some piece e
+piece_some (a_number piece rest e r) = list_some piece e
+piece_some (an_operator piece rest e d r) = list_some piece e
+piece_some (a_special b rest e n) = omega arith
