@@ -4,3 +4,4 @@ pub mod Runs
 pub mod Comments
 pub mod Pieces
 pub mod Sources
+pub mod Answering
