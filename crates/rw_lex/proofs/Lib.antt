@@ -3,3 +3,5 @@ pub mod Tools
 pub mod Runs
 pub mod Comments
 pub mod Pieces
+pub mod Sources
+pub mod Answering

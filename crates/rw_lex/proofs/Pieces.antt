@@ -1,19 +1,20 @@
 -- The piece that bytes begin with is found, and nothing else is.
 use Rattle.std.proofs.Common.{◌≡◌, ◌≢◌, ℕ, zero, suc, ◌+◌, ◌<◌, ◌≤◌, Bool, true, false, cond, ◌&&◌, ◌||◌, nat_eq, List, [], ◌∷◌, ◌++◌, length, take, drop, Option, Some, None, refl, sym, ap, ◌∙◌, subst, arith, append_assoc, length-append, ◌⊎◌, inl, inr}
-use Rattle.std.proofs.Math.Seq.{take-append_seam, drop-append_seam, take-append-add, drop-append-add}
-use Rattle.std.proofs.lemmas.List.{take-append-drop}
+use Rattle.std.proofs.Math.Seq.{take-append_seam, drop-append_seam, take-add}
+use Rattle.std.proofs.lemmas.List.{take-append-drop, drop-drop}
 use Rattle.std.specs.List.{prefix_len, list_all}
 use Rattle.rw_lex.specs.declared.bytes.Class.{Class}
 use Rattle.rw_lex.specs.declared.bytes.Class.TheVariants as class
+use Rattle.rw_lex.specs.declared.bytes.Run.{Run}
 use Rattle.rw_lex.specs.declared.bytes.Run.TheVariants as run
 use Rattle.rw_lex.specs.declared.token.TokenKind.{TokenKind}
 use Rattle.rw_lex.specs.declared.token.TokenKind.TheVariants as kind
 use Rattle.rw_lex.specs.declared.piece.Piece.{Piece}
 use Rattle.rw_lex.specs.declared.piece.Piece.TheVariants as p
-use Rattle.rw_lex.specs.Bytes.{class_of, is_letter_class, is_digit_class, is_symbol_class, is_in, IsRun}
+use Rattle.rw_lex.specs.Bytes.{class_of, is_letter_class, is_word_class, is_digit_class, is_symbol_class, is_in, IsRun}
 use Rattle.rw_lex.specs.Tokens.{opens, begins_comment, Closes, is_dashes, begins_word, word_kind, IsPiece, a_white, a_line_comment, a_block_comment, a_word, a_number, an_operator, a_special, StartsNoPiece, ClosesNever}
 use Rattle.rw_lex.specs.Scan.{closing_len, commented, special_at, symbols_at, word_at, piece_of, piece_at}
-use Rattle.rw_lex.proofs.Tools.{both, chosen, same_number}
+use Rattle.rw_lex.proofs.Tools.{both, same_number, take_one, drop_one}
 use Rattle.rw_lex.proofs.Runs.{run_again, run_there}
 use Rattle.rw_lex.proofs.Comments.{closes_again, closes_there}
 
@@ -104,3 +105,148 @@ piece_again (a_word piece rest e r) = words_again piece rest e r
 piece_again (a_number piece rest e r) = number_again piece rest e r
 piece_again (an_operator piece rest e d r) = symbol_again piece rest e r ∙ ap (λ z. cond z (p.Gap (length piece + prefix_len (is_in run.Line) rest)) (p.Token kind.Operator (length piece))) d
 piece_again (a_special b rest e n) = class_again class.Special b rest e ∙ special_again b rest n
+
+-- ---- what is found is a piece
+abbrev pub There : List ℕ → Piece → Type 0
+There bytes (p.Gap n) = (0 < n) × IsPiece None (take n bytes) (drop n bytes)
+There bytes (p.Token kind n) = (0 < n) × IsPiece (Some kind) (take n bytes) (drop n bytes)
+There bytes p.Unclosed = (rest : List ℕ) × (bytes ≡ 123 ∷ 45 ∷ rest) × ClosesNever rest
+There bytes p.Nothing = (begins_comment bytes ≡ false) × StartsNoPiece bytes
+
+-- a run that the first byte is of has that byte
+record Begun (kind : Run) (b : ℕ) (bs : List ℕ) : Type 0 where
+  some : 0 < prefix_len (is_in kind) (b ∷ bs)
+  first : take (prefix_len (is_in kind) (b ∷ bs)) (b ∷ bs) ≡ b ∷ take (prefix_len (is_in kind) bs) bs
+
+begun : (kind : Run) (b : ℕ) (bs : List ℕ) → is_in kind b ≡ true → Begun kind b bs
+begun kind b bs e =
+    let n : prefix_len (is_in kind) (b ∷ bs) ≡ 1 + prefix_len (is_in kind) bs = ap (λ v. cond v (1 + prefix_len (is_in kind) bs) 0) e in
+    record { some = omega arith; first = ap (λ z. take z (b ∷ bs)) n ∙ take_one b (prefix_len (is_in kind) bs) bs }
+
+word_there : (b : ℕ) (bs : List ℕ) → is_letter_class (class_of b) ≡ true → is_in run.Word b ≡ true → There (b ∷ bs) (word_at (prefix_len (is_in run.Word) (b ∷ bs)) (b ∷ bs))
+unfolding word_at
+word_there b bs l e =
+    let g = begun run.Word b bs e in
+    let begins : begins_word (take (prefix_len (is_in run.Word) (b ∷ bs)) (b ∷ bs)) ≡ true = ap begins_word g.first ∙ l in
+    (g.some, a_word _ _ begins (run_there run.Word (b ∷ bs)))
+
+not_empty : (b : ℕ) (bs cs : List ℕ) → cs ≡ b ∷ bs → cs ≢ []
+not_empty b bs cs e h = let f : b ∷ bs ≡ [] = sym e ∙ h in absurd (cc)
+
+number_there : (b : ℕ) (bs : List ℕ) → is_in run.Digits b ≡ true → There (b ∷ bs) (p.Token kind.Number (prefix_len (is_in run.Digits) (b ∷ bs)))
+number_there b bs e = let g = begun run.Digits b bs e in (g.some, a_number _ _ (not_empty b _ _ g.first) (run_there run.Digits (b ∷ bs)))
+
+comment_there : (n m : ℕ) (bytes : List ℕ) → is_dashes (take n bytes) ≡ true → IsRun run.Symbols (take n bytes) (drop n bytes) → IsRun run.Line (take m (drop n bytes)) (drop m (drop n bytes))
+    → IsPiece None (take (n + m) bytes) (drop (n + m) bytes)
+comment_there n m bytes d r l =
+    let joined : drop n bytes ≡ take m (drop n bytes) ++ drop m (drop n bytes) = sym (take-append-drop m (drop n bytes)) in
+    let piece : take n bytes ++ take m (drop n bytes) ≡ take (n + m) bytes = sym (take-add n m bytes) in
+    let rest : drop m (drop n bytes) ≡ drop (n + m) bytes = drop-drop m n bytes in
+    subst (λ z. IsPiece None z (drop (n + m) bytes)) piece
+    (subst (λ z. IsPiece None (take n bytes ++ take m (drop n bytes)) z) rest
+    (a_line_comment (take n bytes) (take m (drop n bytes)) (drop m (drop n bytes)) d (subst (λ z. IsRun run.Symbols (take n bytes) z) joined r) l))
+
+symbols_there : (b : ℕ) (bs : List ℕ) → is_in run.Symbols b ≡ true → There (b ∷ bs) (symbols_at (prefix_len (is_in run.Symbols) (b ∷ bs)) (b ∷ bs))
+unfolding symbols_at
+symbols_there b bs e =
+    let g = begun run.Symbols b bs e in
+    let n = prefix_len (is_in run.Symbols) (b ∷ bs) in
+    let m = prefix_len (is_in run.Line) (drop n (b ∷ bs)) in
+    let r = run_there run.Symbols (b ∷ bs) in
+    elim (is_dashes (take n (b ∷ bs))) as (λ v. v ≡ is_dashes (take n (b ∷ bs)) → There (b ∷ bs) (cond v (p.Gap (n + m)) (p.Token kind.Operator n))) [
+      | true ↦ (λ d. (omega (arith, g.some), comment_there n m (b ∷ bs) (sym d) r (run_there run.Line (drop n (b ∷ bs)))))
+      | false ↦ (λ d. (g.some, an_operator _ _ (not_empty b _ _ g.first) (sym d) r))
+    ] refl
+
+never : (rest : List ℕ) → closing_len 1 0 rest ≡ None → ClosesNever rest
+never rest e inside later d h = let f : Some (length inside) ≡ None = sym (closes_again d later) ∙ ap (closing_len 1 0) h ∙ e in absurd (cc)
+
+commented_there : (rest : List ℕ) → There (123 ∷ 45 ∷ rest) (commented (closing_len 1 0 rest))
+commented_there rest = elim (closing_len 1 0 rest) as (λ v. v ≡ closing_len 1 0 rest → There (123 ∷ 45 ∷ rest) (commented v)) [
+  | None ↦ (λ e. (rest, refl, never rest (sym e)))
+  | Some n ↦ (λ e. let two : n + 2 ≡ 1 + (1 + n) = omega arith in
+    let piece : take (n + 2) (123 ∷ 45 ∷ rest) ≡ 123 ∷ 45 ∷ take n rest = ap (λ z. take z (123 ∷ 45 ∷ rest)) two ∙ take_one 123 (1 + n) (45 ∷ rest) ∙ ap (λ z. 123 ∷ z) (take_one 45 n rest) in
+    let behind : drop (n + 2) (123 ∷ 45 ∷ rest) ≡ drop n rest = ap (λ z. drop z (123 ∷ 45 ∷ rest)) two ∙ drop_one 123 (1 + n) (45 ∷ rest) ∙ drop_one 45 n rest in
+    (omega arith, subst (λ z. IsPiece None z (drop (n + 2) (123 ∷ 45 ∷ rest))) (sym piece) (subst (λ z. IsPiece None (123 ∷ 45 ∷ take n rest) z) (sym behind) (a_block_comment (take n rest) (drop n rest) (closes_there rest n (sym e))))))
+] refl
+
+opened : (b : ℕ) (bs : List ℕ) → begins_comment (b ∷ bs) ≡ true → b ∷ bs ≡ 123 ∷ 45 ∷ drop 1 bs
+opened b [] e = absurd (cc)
+opened b (c ∷ bs) e =
+    let k = both (nat_eq b 123) (nat_eq c 45) e in
+    let f : b ≡ 123 = same_number b 123 k.0 in
+    let g : c ≡ 45 = same_number c 45 k.1 in
+    cc
+
+special_there : (b : ℕ) (bs : List ℕ) → class_of b ≡ class.Special → There (b ∷ bs) (special_at (b ∷ bs))
+unfolding special_at
+special_there b bs s =
+    elim (begins_comment (b ∷ bs)) as (λ v. v ≡ begins_comment (b ∷ bs) → There (b ∷ bs) (cond v (commented (closing_len 1 0 (drop 2 (b ∷ bs)))) (p.Token kind.Special 1))) [
+      | true ↦ (λ e. subst (λ z. There z (commented (closing_len 1 0 (drop 2 z)))) (sym (opened b bs (sym e))) (commented_there (drop 1 bs)))
+      | false ↦ (λ e. (omega arith, a_special b bs s (sym e)))
+    ] refl
+
+nothing_sized : (kind : Option TokenKind) (n : ℕ) → sized kind n ≡ p.Nothing → ⊥
+nothing_sized None n e = cc
+nothing_sized (Some kind) n e = cc
+
+no_piece : (bytes : List ℕ) → piece_at bytes ≡ p.Nothing → StartsNoPiece bytes
+no_piece bytes e kind piece rest d h = nothing_sized kind (length piece) (sym (piece_again d) ∙ ap piece_at h ∙ e)
+
+no_comment : (b : ℕ) (bs : List ℕ) → class_of b ≡ class.Other → begins_comment (b ∷ bs) ≡ false
+no_comment b bs o = elim (begins_comment (b ∷ bs)) as (λ v. v ≡ begins_comment (b ∷ bs) → v ≡ false) [
+  | true ↦ (λ e. let f = opened b bs (sym e) in let g : b ≡ 123 = cc in let h : class.Special ≡ class.Other = sym (ap class_of g) ∙ o in absurd (cc))
+  | false ↦ (λ e. refl)
+] refl
+
+there_in : (c : Class) (b : ℕ) (bs : List ℕ) → class_of b ≡ c → There (b ∷ bs) (piece_of c (b ∷ bs))
+there_in class.White b bs e = (omega arith, a_white b bs e)
+there_in class.Small b bs e = word_there b bs (ap is_letter_class e) (ap (λ z. is_word_class z || nat_eq b 39) e)
+there_in class.Capital b bs e = word_there b bs (ap is_letter_class e) (ap (λ z. is_word_class z || nat_eq b 39) e)
+there_in class.Digit b bs e = number_there b bs (ap is_digit_class e)
+there_in class.Symbol b bs e = symbols_there b bs (ap is_symbol_class e)
+there_in class.Special b bs e = special_there b bs e
+there_in class.Other b bs e = (no_comment b bs e, no_piece (b ∷ bs) (class_again class.Other b bs e))
+
+pub piece_there : (b : ℕ) (bs : List ℕ) → There (b ∷ bs) (piece_at (b ∷ bs))
+unfolding piece_at
+piece_there b bs = there_in (class_of b) b bs refl
+
+-- ---- where no piece starts, none is found
+pub nothing_again : (b : ℕ) (rest : List ℕ) → begins_comment (b ∷ rest) ≡ false → StartsNoPiece (b ∷ rest) → piece_at (b ∷ rest) ≡ p.Nothing
+nothing_again b rest c s = of (piece_at (b ∷ rest)) (piece_there b rest)
+  where
+    of : (piece : Piece) → There (b ∷ rest) piece → piece ≡ p.Nothing
+    of (p.Gap n) t = absurd (s None (take n (b ∷ rest)) (drop n (b ∷ rest)) t.1 (take-append-drop n (b ∷ rest)))
+    of (p.Token kind n) t = absurd (s (Some kind) (take n (b ∷ rest)) (drop n (b ∷ rest)) t.1 (take-append-drop n (b ∷ rest)))
+    of p.Unclosed t = let e : begins_comment (b ∷ rest) ≡ true = ap begins_comment t.1 in absurd (cc)
+    of p.Nothing t = refl
+
+not_found : (rest : List ℕ) (found : Option ℕ) → closing_len 1 0 rest ≡ found → ClosesNever rest → commented found ≡ p.Unclosed
+not_found rest None e never = refl
+not_found rest (Some n) e never = absurd (never (take n rest) (drop n rest) (closes_there rest n e) (take-append-drop n rest))
+
+open_again : (rest : List ℕ) → ClosesNever rest → special_at (123 ∷ 45 ∷ rest) ≡ p.Unclosed
+unfolding special_at
+open_again rest never = not_found rest (closing_len 1 0 rest) refl never
+
+pub unclosed_again : (rest : List ℕ) → ClosesNever rest → piece_at (123 ∷ 45 ∷ rest) ≡ p.Unclosed
+unclosed_again rest never = class_again class.Special 123 (45 ∷ rest) refl ∙ open_again rest never
+
+-- ---- no piece is empty
+word_some : (piece : List ℕ) → begins_word piece ≡ true → 0 < length piece
+word_some [] e = absurd (cc)
+word_some (b ∷ piece) e = omega arith
+
+list_some : (piece : List ℕ) → piece ≢ [] → 0 < length piece
+list_some [] e = absurd (e refl)
+list_some (b ∷ piece) e = omega arith
+
+pub piece_some : {kind : Option TokenKind} {piece rest : List ℕ} → IsPiece kind piece rest → 0 < length piece
+piece_some (a_white b rest e) = omega arith
+piece_some (a_line_comment dashes line rest d r l) = let some = list_some dashes (dashes_some dashes d) in omega (arith, length-append dashes line)
+piece_some (a_block_comment inside rest d) = omega arith
+piece_some (a_word piece rest e r) = word_some piece e
+piece_some (a_number piece rest e r) = list_some piece e
+piece_some (an_operator piece rest e d r) = list_some piece e
+piece_some (a_special b rest e n) = omega arith
