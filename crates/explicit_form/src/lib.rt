@@ -8,9 +8,11 @@
 mod form;
 mod names;
 mod read;
+mod source;
 mod unread;
 mod words;
 
 pub use form::{Arm, Data, Form, Function, Ports};
 pub use read::read_form;
+pub use source::compile;
 pub use unread::Unread;

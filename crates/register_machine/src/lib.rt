@@ -1,6 +1,0 @@
-//! stub
-#![tactic(auto)]
-
-mod machine;
-
-pub use machine::{Machine, State};

@@ -1,0 +1,10 @@
+-- The words as the code reads them.
+use Rattle.std.specs.Prelude.{Option, Some, None}
+use Rattle.rewire_top.specs.Commands.{Command, Compile}
+use Rattle.rewire_top.specs.declared.words.Asked.{Asked}
+use Rattle.rewire_top.specs.declared.words.Asked.TheVariants.{Compile as Compiles, Nothing}
+
+-- the command that was asked for, if one was
+abbrev pub asked_of : Asked → Option Command
+asked_of Nothing = None
+asked_of (Compiles file target) = Some (Compile file.now target.now)
