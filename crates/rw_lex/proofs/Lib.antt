@@ -4,3 +4,5 @@ pub mod Runs
 pub mod Comments
 pub mod Pieces
 pub mod Sources
+pub mod Answering
+pub mod Turns

@@ -109,7 +109,7 @@ unfoldable pub tokens_from : Place → ℕ → List ℕ → Result (List Token) 
 tokens_from at line bytes = tokens_within (length bytes) at line bytes
 
 -- a call refuses exactly by this rule, unless memory ran out
-abbrev pub FailsBy : {X : Type 0} → Result X Fail → Option Refusal → Type 0
-FailsBy (Ok x) found = found ≡ None
+abbrev pub FailsBy : Result (Unit {0}) Fail → Option Refusal → Type 0
+FailsBy (Ok done) found = found ≡ None
 FailsBy (Err (fail.Refused refusal)) found = found ≡ Some refusal
 FailsBy (Err fail.OutOfMemory) found = Unit {0}
