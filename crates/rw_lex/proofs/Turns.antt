@@ -9,7 +9,7 @@ use Rattle.rw_lex.specs.declared.piece.Piece.{Piece}
 use Rattle.rw_lex.specs.declared.piece.Piece.TheVariants as p
 use Rattle.rw_lex.specs.Tokens.{Answers}
 use Rattle.rw_lex.specs.Scan.{piece_at, len_of, place_from, tokens_of, last_line, refusal_of, in_front, unless, tokens_from, FailsBy}
-use Rattle.rw_lex.proofs.Pieces.{There, piece_there}
+use Rattle.rw_lex.proofs.Longest.{Stands, longest_there}
 use Rattle.rw_lex.proofs.Sources.{next, tokens_next, tokens_end}
 
 in_front_again : (before more : List Token) (r : Result (List Token) Refusal) → in_front (before ++ more) r ≡ in_front before (in_front more r)
@@ -41,7 +41,7 @@ turn_fails piece at line bytes before refusal some e h =
     let after = in_front (tokens_of piece (take (len_of piece) bytes) at line) (tokens_from (place_from at (take (len_of piece) bytes)) (last_line piece at line) (drop (len_of piece) bytes)) in
     ap (in_front before) (tokens_next at line bytes some ∙ ap (λ z. next tokens_from z at line bytes) (sym e) ∙ ap (λ z. unless z after) h)
 
-some_there : (bytes : List ℕ) (piece : Piece) (at : Place) → There bytes piece → refusal_of piece at ≡ None → 0 < len_of piece
+some_there : (bytes : List ℕ) (piece : Piece) (at : Place) → Stands bytes piece → refusal_of piece at ≡ None → 0 < len_of piece
 some_there bytes (p.Gap n) at t e = t.0
 some_there bytes (p.Token kind n) at t e = t.0
 some_there bytes p.Unclosed at t e = absurd (cc)
@@ -49,7 +49,7 @@ some_there bytes p.Nothing at t e = absurd (cc)
 
 pub turn_some : (piece : Piece) (at : Place) (bytes : List ℕ) → 0 < length bytes → piece ≡ piece_at bytes → refusal_of piece at ≡ None → 0 < len_of piece
 turn_some piece at [] some e none = absurd (omega arith)
-turn_some piece at (b ∷ bs) some e none = some_there (b ∷ bs) piece at (subst (There (b ∷ bs)) (sym e) (piece_there b bs)) none
+turn_some piece at (b ∷ bs) some e none = some_there (b ∷ bs) piece at (subst (Stands (b ∷ bs)) (sym e) (longest_there b bs)) none
 
 pub turn_end : (at : Place) (line : ℕ) (bytes : List ℕ) (before : List Token) → length bytes ≡ 0 → in_front before (tokens_from at line bytes) ≡ Ok before
 turn_end at line [] before e = ap (in_front before) (tokens_end at line) ∙ ap Ok (append-nil before)
