@@ -1,8 +1,8 @@
 -- The end of a block comment is found, and nothing else is.
-use Rattle.std.proofs.Common.{◌≡◌, ℕ, zero, suc, ◌+◌, ◌-◌, ◌<◌, Bool, true, false, cond, ◌||◌, nat_eq, List, [], ◌∷◌, ◌++◌, length, take, Option, Some, None, refl, sym, ap, ◌∙◌, subst, arith, add-one, ◌⊎◌, inl, inr}
+use Rattle.std.proofs.Common.{◌≡◌, ℕ, suc, ◌+◌, ◌-◌, ◌<◌, true, false, ◌||◌, nat_eq, List, [], ◌∷◌, ◌++◌, length, take, Some, refl, sym, ap, ◌∙◌, subst, arith, add-one, inl, inr}
 use Rattle.std.proofs.lemmas.Bool.Decides.{nat_tests}
 use Rattle.rw_lex.specs.Tokens.{opens, closes, begins_mark, Closes, the_last, one_less, one_more, another}
-use Rattle.rw_lex.specs.Scan.{further, closing_len}
+use Rattle.rw_lex.specs.Scan.{closing_len}
 use Rattle.rw_lex.proofs.Tools.{both, neither, chosen, some_is, same_number, further_some, take_one}
 
 -- a byte that begins no mark with the next is passed

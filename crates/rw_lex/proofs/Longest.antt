@@ -1,6 +1,6 @@
 -- The longest piece that starts at a byte is found, and nothing else is.
-use Rattle.std.proofs.Common.{◌≡◌, ◌≢◌, ℕ, suc, ◌+◌, ◌-◌, ◌<◌, ◌≤◌, min, Bool, true, false, cond, ◌&&◌, nat_eq, nat_lt, List, [], ◌∷◌, ◌++◌, length, take, drop, Option, Some, None, refl, sym, ap, ◌∙◌, subst, arith, append_assoc, append-nil, length-append, length-take, length-drop, ◌⊎◌, inl, inr}
-use Rattle.std.proofs.Math.Seq.{take-append_seam, drop-append_seam}
+use Rattle.std.proofs.Common.{◌≡◌, ◌≢◌, ℕ, ◌+◌, ◌-◌, ◌<◌, ◌≤◌, min, true, false, cond, ◌&&◌, nat_eq, nat_lt, List, [], ◌∷◌, ◌++◌, length, take, drop, Option, Some, None, refl, sym, ap, ◌∙◌, subst, arith, append_assoc, append-nil, length-append, length-take, length-drop, inl, inr}
+use Rattle.std.proofs.Math.Seq.{take-append_seam}
 use Rattle.std.proofs.lemmas.List.{take-append-drop, take-append-le}
 use Rattle.std.proofs.lemmas.List.Sums.{prefix_len-le-length}
 use Rattle.std.proofs.lemmas.Bool.Decides.{nat_tests}
@@ -16,9 +16,9 @@ use Rattle.rw_lex.specs.Bytes.{class_of, is_in, is_run, stops}
 use Rattle.rw_lex.specs.Tokens.{opens, closes, Closes, ClosesNever, is_dashes, begins_word, word_kind, Sort, gap, token, unclosed, IsPiece, white, line_comment, block_comment, open_comment, word, number, operator, special, IsLongest, StartsNoPiece}
 use Rattle.rw_lex.specs.Scan.{begins_comment, closing_len, commented, len_of, special_at, symbols_at, word_at, piece_of, piece_at}
 use Rattle.rw_lex.proofs.Tools.{both, same_number, chosen, some_is, further_some}
-use Rattle.rw_lex.proofs.Runs.{IsRun, run_within}
+use Rattle.rw_lex.proofs.Runs.{run_within}
 use Rattle.rw_lex.proofs.Comments.{closes_there}
-use Rattle.rw_lex.proofs.Pieces.{IsMaximal, a_white, a_line_comment, a_block_comment, a_word, a_number, an_operator, a_special, There, class_again, letter_class, digit_class, symbol_class, symbol_again, dashes_some, list_some, piece_again, piece_there, unclosed_again, sized}
+use Rattle.rw_lex.proofs.Pieces.{IsMaximal, a_white, a_line_comment, a_block_comment, a_word, a_number, an_operator, a_special, There, class_again, letter_class, digit_class, symbol_class, symbol_again, dashes_some, list_some, piece_again, piece_there, unclosed_again}
 
 -- ---- dashes are symbols
 all_dashes : (piece : List ℕ) → list_all (nat_eq 45) piece ≡ true → is_run run.Symbols piece ≡ true

@@ -1,5 +1,5 @@
 -- The longest run at the front of bytes is found, and nothing else is.
-use Rattle.std.proofs.Common.{◌≡◌, ℕ, suc, ◌+◌, ◌≤◌, Bool, true, false, not, cond, ◌&&◌, List, [], ◌∷◌, ◌++◌, length, take, drop, refl, sym, ap, ◌∙◌, subst, arith}
+use Rattle.std.proofs.Common.{◌≡◌, ℕ, ◌+◌, ◌≤◌, true, false, not, cond, ◌&&◌, List, [], ◌∷◌, ◌++◌, length, take, drop, refl, sym, ap, ◌∙◌, arith}
 use Rattle.std.specs.List.{prefix_len, list_all}
 use Rattle.rw_lex.specs.declared.bytes.Run.{Run}
 use Rattle.rw_lex.specs.Bytes.{is_in, stops}

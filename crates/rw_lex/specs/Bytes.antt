@@ -1,5 +1,5 @@
 -- The classes of bytes, and runs of bytes of one kind (Haskell 2010 Report, section 2.2, in this project's profile).
-use Rattle.std.specs.Prelude.{◌≡◌, ℕ, Bool, true, false, not, ◌||◌, ◌&&◌, nat_eq, nat_le, List, [], ◌∷◌, codes, if◌then◌else◌}
+use Rattle.std.specs.Prelude.{ℕ, Bool, true, false, not, ◌||◌, ◌&&◌, nat_eq, nat_le, List, [], ◌∷◌, codes, if◌then◌else◌}
 use Rattle.std.specs.List.{list_all}
 use Rattle.rw_lex.specs.declared.bytes.Class.{Class}
 use Rattle.rw_lex.specs.declared.bytes.Class.TheVariants as class

@@ -1,7 +1,7 @@
 -- The token list of a source, and the rule that a source without one breaks (Haskell 2010 Report, sections 2.2
 -- to 2.4, in this project's profile). The bytes are pieces, one after another. Each is a gap or a
 -- token, and it is the longest that starts at its byte.
-use Rattle.std.specs.Prelude.{◌≡◌, ◌≢◌, ℕ, suc, ◌<◌, ◌≤◌, Bool, true, false, not, ◌||◌, ◌&&◌, nat_eq, nat_le, List, [], ◌∷◌, ◌++◌, length, codes, Option, Some, None, Result, Ok, Err, if◌then◌else◌}
+use Rattle.std.specs.Prelude.{◌≡◌, ◌≢◌, ℕ, suc, ◌≤◌, Bool, true, false, not, ◌||◌, ◌&&◌, nat_eq, nat_le, List, [], ◌∷◌, ◌++◌, length, codes, Result, Ok, Err, if◌then◌else◌}
 use Rattle.std.specs.List.{list_all}
 use Rattle.std.specs.Str.{bytes_eq}
 use Rattle.rw_base.specs.declared.place.Place.{Place}
@@ -10,7 +10,6 @@ use Rattle.rw_base.specs.declared.fail.Fail.TheVariants as fail
 use Rattle.rw_base.specs.declared.fail.Refusal.{Refusal}
 use Rattle.rw_base.specs.declared.rule.Rule.TheVariants.{E02, E03}
 use Rattle.rw_base.specs.Places.{place_after}
-use Rattle.rw_lex.specs.declared.bytes.Class.{Class}
 use Rattle.rw_lex.specs.declared.bytes.Class.TheVariants as class
 use Rattle.rw_lex.specs.declared.bytes.Run.TheVariants as run
 use Rattle.rw_lex.specs.declared.token.TokenKind.{TokenKind}

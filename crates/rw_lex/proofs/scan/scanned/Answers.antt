@@ -1,10 +1,9 @@
 -- A turn of the scan goes on, ends or refuses as the list function does.
-use Rattle.std.proofs.Common.{◌≡◌, ◌<◌, ◌≤◌, length, take, drop, ap, sym, ◌∙◌, arith, length-drop, Vec, Global}
+use Rattle.std.proofs.Common.{◌≡◌, ◌<◌, length, take, drop, ap, sym, ◌∙◌, arith, Vec, Global}
 use Rattle.rw_lex.specs.declared.token.Token.{Token}
 use Rattle.std.proofs.lemmas.Result.{err_from_is_err_and}
 use Rattle.std.proofs.lemmas.Grind.{common_steps}
-use Rattle.rw_base.specs.Places.{place_after}
-use Rattle.rw_lex.specs.Scan.{len_of, refusal_of, tokens_from}
+use Rattle.rw_lex.specs.Scan.{refusal_of}
 use Rattle.rw_lex.proofs.Turns.{turn_on, turn_fails, turn_some, turn_end, fails_on}
 use Rattle.rw_lex.proofs.scan.scanned.Goals as goal
 
