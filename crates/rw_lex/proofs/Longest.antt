@@ -115,9 +115,9 @@ never_within inside more n never e =
     elim (nat_lt (length inside) n) as (λ v. v ≡ nat_lt (length inside) n → length inside < n) [
       | true ↦ (λ h. let k : nat_lt (length inside) n ≡ true = sym h in grind (arith, nat_tests))
       | false ↦ (λ h. let k : nat_lt (length inside) n ≡ false = sym h in
-        let within : n ≤ length inside = grind (arith, nat_tests) in
-        let same : take n (inside ++ more) ≡ take n inside = take-append-le n inside more within in
-        absurd (never (take n inside) (drop n inside) (subst (Closes 1) same (closes_there (inside ++ more) n e)) (take-append-drop n inside)))
+          let within : n ≤ length inside = grind (arith, nat_tests) in
+          let same : take n (inside ++ more) ≡ take n inside = take-append-le n inside more within in
+          absurd (never (take n inside) (drop n inside) (subst (Closes 1) same (closes_there (inside ++ more) n e)) (take-append-drop n inside)))
     ] refl
 
 open_reach : (inside more : List ℕ) (found : Option ℕ) → ClosesNever inside → closing_len 1 0 (inside ++ more) ≡ found → length (123 ∷ 45 ∷ inside) ≤ reach (commented found) (123 ∷ 45 ∷ (inside ++ more))
@@ -254,9 +254,9 @@ taken_longest : (n : ℕ) (bytes : List ℕ) (found : Piece) (sort : Sort) → p
 taken_longest n bytes found sort e r d = record {
   is = d;
   longest = λ other piece more f h.
-  let l = limit bytes found e other piece more f (h ∙ take-append-drop n bytes) in
-  let t = length-take n bytes in
-  omega (arith, l.reached, l.within, r, t);
+      let l = limit bytes found e other piece more f (h ∙ take-append-drop n bytes) in
+      let t = length-take n bytes in
+      omega (arith, l.reached, l.within, r, t);
 }
 
 stands : (bytes : List ℕ) (found : Piece) → piece_at bytes ≡ found → There bytes found → Stands bytes found

@@ -172,9 +172,9 @@ commented_there : (rest : List ℕ) → There (123 ∷ 45 ∷ rest) (commented (
 commented_there rest = elim (closing_len 1 0 rest) as (λ v. v ≡ closing_len 1 0 rest → There (123 ∷ 45 ∷ rest) (commented v)) [
   | None ↦ (λ e. (rest, refl, never rest (sym e)))
   | Some n ↦ (λ e. let two : n + 2 ≡ 1 + (1 + n) = omega arith in
-    let piece : take (n + 2) (123 ∷ 45 ∷ rest) ≡ 123 ∷ 45 ∷ take n rest = ap (λ z. take z (123 ∷ 45 ∷ rest)) two ∙ take_one 123 (1 + n) (45 ∷ rest) ∙ ap (λ z. 123 ∷ z) (take_one 45 n rest) in
-    let behind : drop (n + 2) (123 ∷ 45 ∷ rest) ≡ drop n rest = ap (λ z. drop z (123 ∷ 45 ∷ rest)) two ∙ drop_one 123 (1 + n) (45 ∷ rest) ∙ drop_one 45 n rest in
-    (omega arith, subst (λ z. IsMaximal None z (drop (n + 2) (123 ∷ 45 ∷ rest))) (sym piece) (subst (λ z. IsMaximal None (123 ∷ 45 ∷ take n rest) z) (sym behind) (a_block_comment (take n rest) (drop n rest) (closes_there rest n (sym e))))))
+      let piece : take (n + 2) (123 ∷ 45 ∷ rest) ≡ 123 ∷ 45 ∷ take n rest = ap (λ z. take z (123 ∷ 45 ∷ rest)) two ∙ take_one 123 (1 + n) (45 ∷ rest) ∙ ap (λ z. 123 ∷ z) (take_one 45 n rest) in
+      let behind : drop (n + 2) (123 ∷ 45 ∷ rest) ≡ drop n rest = ap (λ z. drop z (123 ∷ 45 ∷ rest)) two ∙ drop_one 123 (1 + n) (45 ∷ rest) ∙ drop_one 45 n rest in
+      (omega arith, subst (λ z. IsMaximal None z (drop (n + 2) (123 ∷ 45 ∷ rest))) (sym piece) (subst (λ z. IsMaximal None (123 ∷ 45 ∷ take n rest) z) (sym behind) (a_block_comment (take n rest) (drop n rest) (closes_there rest n (sym e))))))
 ] refl
 
 opened : (b : ℕ) (bs : List ℕ) → begins_comment (b ∷ bs) ≡ true → b ∷ bs ≡ 123 ∷ 45 ∷ drop 1 bs
