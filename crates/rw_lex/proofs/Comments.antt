@@ -1,8 +1,8 @@
 -- The end of a block comment is found, and nothing else is.
-use Rattle.std.proofs.Common.{◌≡◌, ℕ, zero, suc, ◌+◌, ◌-◌, ◌<◌, Bool, true, false, cond, ◌||◌, nat_eq, List, [], ◌∷◌, ◌++◌, length, take, Option, Some, None, refl, sym, ap, ◌∙◌, subst, arith, add-one, ◌⊎◌, inl, inr}
+use Rattle.std.proofs.Common.{◌≡◌, ℕ, suc, ◌+◌, ◌-◌, ◌<◌, true, false, ◌||◌, nat_eq, List, [], ◌∷◌, ◌++◌, length, take, Some, refl, sym, ap, ◌∙◌, subst, arith, add-one, inl, inr}
 use Rattle.std.proofs.lemmas.Bool.Decides.{nat_tests}
 use Rattle.rw_lex.specs.Tokens.{opens, closes, begins_mark, Closes, the_last, one_less, one_more, another}
-use Rattle.rw_lex.specs.Scan.{further, closing_len}
+use Rattle.rw_lex.specs.Scan.{closing_len}
 use Rattle.rw_lex.proofs.Tools.{both, neither, chosen, some_is, same_number, further_some, take_one}
 
 -- a byte that begins no mark with the next is passed
@@ -95,25 +95,25 @@ found (b ∷ bs) =
     let h = found bs in
     record {
       behind = λ n before k some e.
-      elim (chosen (opens before b) _ _ _ e) [
-        | inl o ↦ let f = further_some 1 k (closing_len (n + 1) 0 bs) o.1 in joined_opens n before b k f.0 bs o.0 f.2 (h.alone (n + 1) f.0 (omega arith) f.1)
-        | inr o ↦ elim (chosen (closes before b) _ _ _ o.1) [
-          | inl c ↦ elim (chosen (nat_eq n 1) _ _ _ c.1) [
-            | inl l ↦ joined_last n before b k bs c.0 (same_number n 1 l.0) (sym (some_is 1 k l.1))
-            | inr l ↦ let f = further_some 1 k (closing_len (n - 1) 0 bs) l.1 in
-                let other : nat_eq n 1 ≡ false = l.0 in
-                let two : 1 < n = grind (arith, nat_tests) in
-                let m : n ≡ suc (suc (n - 2)) = omega arith in
-                let less : n - 1 ≡ suc (n - 2) = omega arith in
-                joined_closes n (n - 2) before b k f.0 bs c.0 m f.2 (subst (λ z. Closes z (take f.0 bs)) less (h.alone (n - 1) f.0 (omega arith) f.1))
-          ]
-          | inr c ↦ let f = further_some 1 k (closing_len n b bs) c.1 in joined_other n before b k f.0 bs o.0 c.0 f.2 (h.behind n b f.0 some f.1)
-        ]
-      ];
+          elim (chosen (opens before b) _ _ _ e) [
+            | inl o ↦ let f = further_some 1 k (closing_len (n + 1) 0 bs) o.1 in joined_opens n before b k f.0 bs o.0 f.2 (h.alone (n + 1) f.0 (omega arith) f.1)
+            | inr o ↦ elim (chosen (closes before b) _ _ _ o.1) [
+              | inl c ↦ elim (chosen (nat_eq n 1) _ _ _ c.1) [
+                | inl l ↦ joined_last n before b k bs c.0 (same_number n 1 l.0) (sym (some_is 1 k l.1))
+                | inr l ↦ let f = further_some 1 k (closing_len (n - 1) 0 bs) l.1 in
+                    let other : nat_eq n 1 ≡ false = l.0 in
+                    let two : 1 < n = grind (arith, nat_tests) in
+                    let m : n ≡ suc (suc (n - 2)) = omega arith in
+                    let less : n - 1 ≡ suc (n - 2) = omega arith in
+                    joined_closes n (n - 2) before b k f.0 bs c.0 m f.2 (subst (λ z. Closes z (take f.0 bs)) less (h.alone (n - 1) f.0 (omega arith) f.1))
+              ]
+              | inr c ↦ let f = further_some 1 k (closing_len n b bs) c.1 in joined_other n before b k f.0 bs o.0 c.0 f.2 (h.behind n b f.0 some f.1)
+            ]
+          ];
       alone = λ n k some e.
-      let f = further_some 1 k (closing_len n b bs) e in
-      let t : take k (b ∷ bs) ≡ b ∷ take f.0 bs = ap (λ z. take z (b ∷ bs)) f.2 ∙ take_one b f.0 bs in
-      subst (Closes n) (sym t) (h.behind n b f.0 some f.1);
+          let f = further_some 1 k (closing_len n b bs) e in
+          let t : take k (b ∷ bs) ≡ b ∷ take f.0 bs = ap (λ z. take z (b ∷ bs)) f.2 ∙ take_one b f.0 bs in
+          subst (Closes n) (sym t) (h.behind n b f.0 some f.1);
     }
 
 pub closes_there : (bs : List ℕ) (k : ℕ) → closing_len 1 0 bs ≡ Some k → Closes 1 (take k bs)

@@ -1,7 +1,9 @@
--- Lemmas: tools, runs, block comments, pieces, and whole sources.
+-- Lemmas: tools, runs, block comments, maximal and longest pieces, whole sources, the laws, one turn of the scan.
 pub mod Tools
 pub mod Runs
 pub mod Comments
 pub mod Pieces
+pub mod Longest
 pub mod Sources
 pub mod Answering
+pub mod Turns

@@ -1,8 +1,8 @@
--- The piece that bytes begin with is found, and nothing else is.
-use Rattle.std.proofs.Common.{◌≡◌, ◌≢◌, ℕ, zero, suc, ◌+◌, ◌<◌, ◌≤◌, Bool, true, false, cond, ◌&&◌, ◌||◌, nat_eq, List, [], ◌∷◌, ◌++◌, length, take, drop, Option, Some, None, refl, sym, ap, ◌∙◌, subst, arith, append_assoc, length-append, ◌⊎◌, inl, inr}
+-- The piece that bytes begin with, said by runs that can't be made longer, is found, and nothing else is.
+use Rattle.std.proofs.Common.{◌≡◌, ◌≢◌, ℕ, ◌+◌, ◌<◌, true, false, cond, ◌||◌, nat_eq, List, [], ◌∷◌, ◌++◌, length, take, drop, Option, Some, None, refl, sym, ap, ◌∙◌, subst, arith, append_assoc, length-append, ◌⊎◌, inl, inr}
 use Rattle.std.proofs.Math.Seq.{take-append_seam, drop-append_seam, take-add}
 use Rattle.std.proofs.lemmas.List.{take-append-drop, drop-drop}
-use Rattle.std.specs.List.{prefix_len, list_all}
+use Rattle.std.specs.List.{prefix_len}
 use Rattle.rw_lex.specs.declared.bytes.Class.{Class}
 use Rattle.rw_lex.specs.declared.bytes.Class.TheVariants as class
 use Rattle.rw_lex.specs.declared.bytes.Run.{Run}
@@ -11,24 +11,34 @@ use Rattle.rw_lex.specs.declared.token.TokenKind.{TokenKind}
 use Rattle.rw_lex.specs.declared.token.TokenKind.TheVariants as kind
 use Rattle.rw_lex.specs.declared.piece.Piece.{Piece}
 use Rattle.rw_lex.specs.declared.piece.Piece.TheVariants as p
-use Rattle.rw_lex.specs.Bytes.{class_of, is_letter_class, is_word_class, is_digit_class, is_symbol_class, is_in, IsRun}
-use Rattle.rw_lex.specs.Tokens.{opens, begins_comment, Closes, is_dashes, begins_word, word_kind, IsPiece, a_white, a_line_comment, a_block_comment, a_word, a_number, an_operator, a_special, StartsNoPiece, ClosesNever}
-use Rattle.rw_lex.specs.Scan.{closing_len, commented, special_at, symbols_at, word_at, piece_of, piece_at}
+use Rattle.rw_lex.specs.Bytes.{class_of, is_letter_class, is_word_class, is_digit_class, is_symbol_class, is_in}
+use Rattle.rw_lex.specs.Tokens.{Closes, is_dashes, begins_word, word_kind, ClosesNever}
+use Rattle.rw_lex.specs.Scan.{begins_comment, closing_len, commented, special_at, symbols_at, word_at, piece_of, piece_at}
 use Rattle.rw_lex.proofs.Tools.{both, same_number, take_one, drop_one}
-use Rattle.rw_lex.proofs.Runs.{run_again, run_there}
+use Rattle.rw_lex.proofs.Runs.{IsRun, run_again, run_there}
 use Rattle.rw_lex.proofs.Comments.{closes_again, closes_there}
 
+-- a gap (no kind) or a token that can't be made longer before this rest
+pub data IsMaximal : Option TokenKind → List ℕ → List ℕ → Type 0 where
+  a_white : (b : ℕ) (rest : List ℕ) → class_of b ≡ class.White → IsMaximal None (b ∷ []) rest
+  a_line_comment : (dashes line rest : List ℕ) → is_dashes dashes ≡ true → IsRun run.Symbols dashes (line ++ rest) → IsRun run.Line line rest → IsMaximal None (dashes ++ line) rest
+  a_block_comment : (inside rest : List ℕ) → Closes 1 inside → IsMaximal None (123 ∷ 45 ∷ inside) rest
+  a_word : (piece rest : List ℕ) → begins_word piece ≡ true → IsRun run.Word piece rest → IsMaximal (Some (word_kind piece)) piece rest
+  a_number : (piece rest : List ℕ) → piece ≢ [] → IsRun run.Digits piece rest → IsMaximal (Some kind.Number) piece rest
+  an_operator : (piece rest : List ℕ) → piece ≢ [] → is_dashes piece ≡ false → IsRun run.Symbols piece rest → IsMaximal (Some kind.Operator) piece rest
+  a_special : (b : ℕ) (rest : List ℕ) → class_of b ≡ class.Special → begins_comment (b ∷ rest) ≡ false → IsMaximal (Some kind.Special) (b ∷ []) rest
+
 -- ---- classes
-letter_class : (c : Class) → is_letter_class c ≡ true → (c ≡ class.Small) ⊎ (c ≡ class.Capital)
+pub letter_class : (c : Class) → is_letter_class c ≡ true → (c ≡ class.Small) ⊎ (c ≡ class.Capital)
 letter_class class.Small e = inl refl
 letter_class class.Capital e = inr refl
 letter_class c e = absurd (cc)
 
-digit_class : (c : Class) → is_digit_class c ≡ true → c ≡ class.Digit
+pub digit_class : (c : Class) → is_digit_class c ≡ true → c ≡ class.Digit
 digit_class class.Digit e = refl
 digit_class c e = absurd (cc)
 
-symbol_class : (c : Class) → is_symbol_class c ≡ true → c ≡ class.Symbol
+pub symbol_class : (c : Class) → is_symbol_class c ≡ true → c ≡ class.Symbol
 symbol_class class.Symbol e = refl
 symbol_class c e = absurd (cc)
 
@@ -39,10 +49,7 @@ abbrev pub sized : Option TokenKind → ℕ → Piece
 sized None n = p.Gap n
 sized (Some kind) n = p.Token kind n
 
-abbrev piece_in : Class → List ℕ → Piece
-piece_in c bytes = piece_of c bytes
-
-class_again : (c : Class) (b : ℕ) (bs : List ℕ) → class_of b ≡ c → piece_at (b ∷ bs) ≡ piece_of c (b ∷ bs)
+pub class_again : (c : Class) (b : ℕ) (bs : List ℕ) → class_of b ≡ c → piece_at (b ∷ bs) ≡ piece_of c (b ∷ bs)
 unfolding piece_at
 class_again c b bs e = ap (λ z. piece_of z (b ∷ bs)) e
 
@@ -80,12 +87,12 @@ number_again [] rest e r = absurd (e refl)
 number_again (b ∷ piece) rest e r =
     class_again class.Digit b (piece ++ rest) (digit_class (class_of b) (both (is_in run.Digits b) _ r.all).0) ∙ ap (p.Token kind.Number) (run_again run.Digits (b ∷ piece) rest r)
 
-symbol_again : (piece rest : List ℕ) → piece ≢ [] → IsRun run.Symbols piece rest
+pub symbol_again : (piece rest : List ℕ) → piece ≢ [] → IsRun run.Symbols piece rest
     → piece_at (piece ++ rest) ≡ cond (is_dashes piece) (p.Gap (length piece + prefix_len (is_in run.Line) rest)) (p.Token kind.Operator (length piece))
 symbol_again [] rest e r = absurd (e refl)
 symbol_again (b ∷ piece) rest e r = class_again class.Symbol b (piece ++ rest) (symbol_class (class_of b) (both (is_in run.Symbols b) _ r.all).0) ∙ symbols_again (b ∷ piece) rest r
 
-dashes_some : (piece : List ℕ) → is_dashes piece ≡ true → piece ≢ []
+pub dashes_some : (piece : List ℕ) → is_dashes piece ≡ true → piece ≢ []
 dashes_some [] e = absurd (cc)
 dashes_some (b ∷ piece) e = λ h. cc
 
@@ -97,7 +104,7 @@ line_again dashes line rest d r l =
     ∙ ap (λ z. p.Gap (length dashes + z)) (run_again run.Line line rest l)
     ∙ ap p.Gap (sym (length-append dashes line))
 
-pub piece_again : {kind : Option TokenKind} {piece rest : List ℕ} → IsPiece kind piece rest → piece_at (piece ++ rest) ≡ sized kind (length piece)
+pub piece_again : {kind : Option TokenKind} {piece rest : List ℕ} → IsMaximal kind piece rest → piece_at (piece ++ rest) ≡ sized kind (length piece)
 piece_again (a_white b rest e) = class_again class.White b rest e
 piece_again (a_line_comment dashes line rest d r l) = line_again dashes line rest d r l
 piece_again (a_block_comment inside rest d) = class_again class.Special 123 (45 ∷ (inside ++ rest)) refl ∙ comment_again inside rest d ∙ ap p.Gap (omega arith)
@@ -108,10 +115,10 @@ piece_again (a_special b rest e n) = class_again class.Special b rest e ∙ spec
 
 -- ---- what is found is a piece
 abbrev pub There : List ℕ → Piece → Type 0
-There bytes (p.Gap n) = (0 < n) × IsPiece None (take n bytes) (drop n bytes)
-There bytes (p.Token kind n) = (0 < n) × IsPiece (Some kind) (take n bytes) (drop n bytes)
+There bytes (p.Gap n) = (0 < n) × IsMaximal None (take n bytes) (drop n bytes)
+There bytes (p.Token kind n) = (0 < n) × IsMaximal (Some kind) (take n bytes) (drop n bytes)
 There bytes p.Unclosed = (rest : List ℕ) × (bytes ≡ 123 ∷ 45 ∷ rest) × ClosesNever rest
-There bytes p.Nothing = (begins_comment bytes ≡ false) × StartsNoPiece bytes
+There bytes p.Nothing = Unit {0}
 
 -- a run that the first byte is of has that byte
 record Begun (kind : Run) (b : ℕ) (bs : List ℕ) : Type 0 where
@@ -137,13 +144,13 @@ number_there : (b : ℕ) (bs : List ℕ) → is_in run.Digits b ≡ true → The
 number_there b bs e = let g = begun run.Digits b bs e in (g.some, a_number _ _ (not_empty b _ _ g.first) (run_there run.Digits (b ∷ bs)))
 
 comment_there : (n m : ℕ) (bytes : List ℕ) → is_dashes (take n bytes) ≡ true → IsRun run.Symbols (take n bytes) (drop n bytes) → IsRun run.Line (take m (drop n bytes)) (drop m (drop n bytes))
-    → IsPiece None (take (n + m) bytes) (drop (n + m) bytes)
+    → IsMaximal None (take (n + m) bytes) (drop (n + m) bytes)
 comment_there n m bytes d r l =
     let joined : drop n bytes ≡ take m (drop n bytes) ++ drop m (drop n bytes) = sym (take-append-drop m (drop n bytes)) in
     let piece : take n bytes ++ take m (drop n bytes) ≡ take (n + m) bytes = sym (take-add n m bytes) in
     let rest : drop m (drop n bytes) ≡ drop (n + m) bytes = drop-drop m n bytes in
-    subst (λ z. IsPiece None z (drop (n + m) bytes)) piece
-    (subst (λ z. IsPiece None (take n bytes ++ take m (drop n bytes)) z) rest
+    subst (λ z. IsMaximal None z (drop (n + m) bytes)) piece
+    (subst (λ z. IsMaximal None (take n bytes ++ take m (drop n bytes)) z) rest
     (a_line_comment (take n bytes) (take m (drop n bytes)) (drop m (drop n bytes)) d (subst (λ z. IsRun run.Symbols (take n bytes) z) joined r) l))
 
 symbols_there : (b : ℕ) (bs : List ℕ) → is_in run.Symbols b ≡ true → There (b ∷ bs) (symbols_at (prefix_len (is_in run.Symbols) (b ∷ bs)) (b ∷ bs))
@@ -165,9 +172,9 @@ commented_there : (rest : List ℕ) → There (123 ∷ 45 ∷ rest) (commented (
 commented_there rest = elim (closing_len 1 0 rest) as (λ v. v ≡ closing_len 1 0 rest → There (123 ∷ 45 ∷ rest) (commented v)) [
   | None ↦ (λ e. (rest, refl, never rest (sym e)))
   | Some n ↦ (λ e. let two : n + 2 ≡ 1 + (1 + n) = omega arith in
-    let piece : take (n + 2) (123 ∷ 45 ∷ rest) ≡ 123 ∷ 45 ∷ take n rest = ap (λ z. take z (123 ∷ 45 ∷ rest)) two ∙ take_one 123 (1 + n) (45 ∷ rest) ∙ ap (λ z. 123 ∷ z) (take_one 45 n rest) in
-    let behind : drop (n + 2) (123 ∷ 45 ∷ rest) ≡ drop n rest = ap (λ z. drop z (123 ∷ 45 ∷ rest)) two ∙ drop_one 123 (1 + n) (45 ∷ rest) ∙ drop_one 45 n rest in
-    (omega arith, subst (λ z. IsPiece None z (drop (n + 2) (123 ∷ 45 ∷ rest))) (sym piece) (subst (λ z. IsPiece None (123 ∷ 45 ∷ take n rest) z) (sym behind) (a_block_comment (take n rest) (drop n rest) (closes_there rest n (sym e))))))
+      let piece : take (n + 2) (123 ∷ 45 ∷ rest) ≡ 123 ∷ 45 ∷ take n rest = ap (λ z. take z (123 ∷ 45 ∷ rest)) two ∙ take_one 123 (1 + n) (45 ∷ rest) ∙ ap (λ z. 123 ∷ z) (take_one 45 n rest) in
+      let behind : drop (n + 2) (123 ∷ 45 ∷ rest) ≡ drop n rest = ap (λ z. drop z (123 ∷ 45 ∷ rest)) two ∙ drop_one 123 (1 + n) (45 ∷ rest) ∙ drop_one 45 n rest in
+      (omega arith, subst (λ z. IsMaximal None z (drop (n + 2) (123 ∷ 45 ∷ rest))) (sym piece) (subst (λ z. IsMaximal None (123 ∷ 45 ∷ take n rest) z) (sym behind) (a_block_comment (take n rest) (drop n rest) (closes_there rest n (sym e))))))
 ] refl
 
 opened : (b : ℕ) (bs : List ℕ) → begins_comment (b ∷ bs) ≡ true → b ∷ bs ≡ 123 ∷ 45 ∷ drop 1 bs
@@ -186,19 +193,6 @@ special_there b bs s =
       | false ↦ (λ e. (omega arith, a_special b bs s (sym e)))
     ] refl
 
-nothing_sized : (kind : Option TokenKind) (n : ℕ) → sized kind n ≡ p.Nothing → ⊥
-nothing_sized None n e = cc
-nothing_sized (Some kind) n e = cc
-
-no_piece : (bytes : List ℕ) → piece_at bytes ≡ p.Nothing → StartsNoPiece bytes
-no_piece bytes e kind piece rest d h = nothing_sized kind (length piece) (sym (piece_again d) ∙ ap piece_at h ∙ e)
-
-no_comment : (b : ℕ) (bs : List ℕ) → class_of b ≡ class.Other → begins_comment (b ∷ bs) ≡ false
-no_comment b bs o = elim (begins_comment (b ∷ bs)) as (λ v. v ≡ begins_comment (b ∷ bs) → v ≡ false) [
-  | true ↦ (λ e. let f = opened b bs (sym e) in let g : b ≡ 123 = cc in let h : class.Special ≡ class.Other = sym (ap class_of g) ∙ o in absurd (cc))
-  | false ↦ (λ e. refl)
-] refl
-
 there_in : (c : Class) (b : ℕ) (bs : List ℕ) → class_of b ≡ c → There (b ∷ bs) (piece_of c (b ∷ bs))
 there_in class.White b bs e = (omega arith, a_white b bs e)
 there_in class.Small b bs e = word_there b bs (ap is_letter_class e) (ap (λ z. is_word_class z || nat_eq b 39) e)
@@ -206,22 +200,13 @@ there_in class.Capital b bs e = word_there b bs (ap is_letter_class e) (ap (λ z
 there_in class.Digit b bs e = number_there b bs (ap is_digit_class e)
 there_in class.Symbol b bs e = symbols_there b bs (ap is_symbol_class e)
 there_in class.Special b bs e = special_there b bs e
-there_in class.Other b bs e = (no_comment b bs e, no_piece (b ∷ bs) (class_again class.Other b bs e))
+there_in class.Other b bs e = tt
 
 pub piece_there : (b : ℕ) (bs : List ℕ) → There (b ∷ bs) (piece_at (b ∷ bs))
 unfolding piece_at
 piece_there b bs = there_in (class_of b) b bs refl
 
--- ---- where no piece starts, none is found
-pub nothing_again : (b : ℕ) (rest : List ℕ) → begins_comment (b ∷ rest) ≡ false → StartsNoPiece (b ∷ rest) → piece_at (b ∷ rest) ≡ p.Nothing
-nothing_again b rest c s = of (piece_at (b ∷ rest)) (piece_there b rest)
-  where
-    of : (piece : Piece) → There (b ∷ rest) piece → piece ≡ p.Nothing
-    of (p.Gap n) t = absurd (s None (take n (b ∷ rest)) (drop n (b ∷ rest)) t.1 (take-append-drop n (b ∷ rest)))
-    of (p.Token kind n) t = absurd (s (Some kind) (take n (b ∷ rest)) (drop n (b ∷ rest)) t.1 (take-append-drop n (b ∷ rest)))
-    of p.Unclosed t = let e : begins_comment (b ∷ rest) ≡ true = ap begins_comment t.1 in absurd (cc)
-    of p.Nothing t = refl
-
+-- ---- a comment that never closes is found
 not_found : (rest : List ℕ) (found : Option ℕ) → closing_len 1 0 rest ≡ found → ClosesNever rest → commented found ≡ p.Unclosed
 not_found rest None e never = refl
 not_found rest (Some n) e never = absurd (never (take n rest) (drop n rest) (closes_there rest n e) (take-append-drop n rest))
@@ -233,20 +218,7 @@ open_again rest never = not_found rest (closing_len 1 0 rest) refl never
 pub unclosed_again : (rest : List ℕ) → ClosesNever rest → piece_at (123 ∷ 45 ∷ rest) ≡ p.Unclosed
 unclosed_again rest never = class_again class.Special 123 (45 ∷ rest) refl ∙ open_again rest never
 
--- ---- no piece is empty
-word_some : (piece : List ℕ) → begins_word piece ≡ true → 0 < length piece
-word_some [] e = absurd (cc)
-word_some (b ∷ piece) e = omega arith
-
-list_some : (piece : List ℕ) → piece ≢ [] → 0 < length piece
+-- ---- tools
+pub list_some : (piece : List ℕ) → piece ≢ [] → 0 < length piece
 list_some [] e = absurd (e refl)
 list_some (b ∷ piece) e = omega arith
-
-pub piece_some : {kind : Option TokenKind} {piece rest : List ℕ} → IsPiece kind piece rest → 0 < length piece
-piece_some (a_white b rest e) = omega arith
-piece_some (a_line_comment dashes line rest d r l) = let some = list_some dashes (dashes_some dashes d) in omega (arith, length-append dashes line)
-piece_some (a_block_comment inside rest d) = omega arith
-piece_some (a_word piece rest e r) = word_some piece e
-piece_some (a_number piece rest e r) = list_some piece e
-piece_some (an_operator piece rest e d r) = list_some piece e
-piece_some (a_special b rest e n) = omega arith

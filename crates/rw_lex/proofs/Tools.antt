@@ -1,5 +1,5 @@
 -- Small tools on tests, options and lists.
-use Rattle.std.proofs.Common.{◌≡◌, ℕ, suc, ◌+◌, Bool, true, false, not, cond, ◌&&◌, ◌||◌, List, ◌∷◌, take, drop, Option, Some, None, refl, sym, ap, subst, arith, ◌⊎◌, inl, inr, nat_eq}
+use Rattle.std.proofs.Common.{◌≡◌, ℕ, suc, ◌+◌, Bool, true, false, not, cond, ◌&&◌, ◌||◌, List, ◌∷◌, take, drop, Option, Some, None, refl, sym, arith, ◌⊎◌, inl, inr, nat_eq}
 use Rattle.std.proofs.lemmas.Bool.Decides.{nat_tests}
 use Rattle.rw_lex.specs.Scan.{further}
 

@@ -1,5 +1,5 @@
 -- The classes of bytes, and runs of bytes of one kind (Haskell 2010 Report, section 2.2, in this project's profile).
-use Rattle.std.specs.Prelude.{◌≡◌, ℕ, Bool, true, false, not, ◌||◌, ◌&&◌, nat_eq, nat_le, List, [], ◌∷◌, codes, if◌then◌else◌}
+use Rattle.std.specs.Prelude.{ℕ, Bool, true, false, not, ◌||◌, ◌&&◌, nat_eq, nat_le, List, [], ◌∷◌, codes, if◌then◌else◌}
 use Rattle.std.specs.List.{list_all}
 use Rattle.rw_lex.specs.declared.bytes.Class.{Class}
 use Rattle.rw_lex.specs.declared.bytes.Class.TheVariants as class
@@ -54,12 +54,11 @@ is_in run.Digits b = is_digit_class (class_of b)
 is_in run.Symbols b = is_symbol_class (class_of b)
 is_in run.Line b = not (nat_eq b 10)
 
+-- all of these bytes are of the kind
+abbrev pub is_run : Run → List ℕ → Bool
+is_run kind piece = list_all (is_in kind) piece
+
 -- these bytes don't begin with one of the kind
 abbrev pub stops : Run → List ℕ → Bool
 stops kind [] = true
 stops kind (b ∷ bs) = not (is_in kind b)
-
--- a run of this kind that can't be made longer: all bytes are of the kind, and the rest doesn't begin with one
-pub record IsRun (kind : Run) (piece rest : List ℕ) : Type 0 where
-  pub all : list_all (is_in kind) piece ≡ true
-  pub stop : stops kind rest ≡ true

@@ -1,6 +1,6 @@
 -- What the functions inside promise each other: the piece that bytes begin with, and the tokens from a place on,
 -- as functions on lists.
-use Rattle.std.specs.Prelude.{◌≡◌, ℕ, zero, suc, ◌+◌, ◌-◌, nat_eq, fold, List, [], ◌∷◌, ◌++◌, length, take, drop, Option, Some, None, Result, Ok, Err, if◌then◌else◌}
+use Rattle.std.specs.Prelude.{◌≡◌, ℕ, zero, suc, ◌+◌, ◌-◌, Bool, false, nat_eq, fold, List, [], ◌∷◌, ◌++◌, length, take, drop, Option, Some, None, Result, Ok, Err, if◌then◌else◌}
 use Rattle.std.specs.List.{prefix_len}
 use Rattle.rw_base.specs.declared.place.Place.{Place}
 use Rattle.rw_base.specs.declared.fail.Fail.{Fail}
@@ -16,7 +16,7 @@ use Rattle.rw_lex.specs.declared.token.Token.{Token}
 use Rattle.rw_lex.specs.declared.piece.Piece.{Piece}
 use Rattle.rw_lex.specs.declared.piece.Piece.TheVariants as p
 use Rattle.rw_lex.specs.Bytes.{class_of, is_in}
-use Rattle.rw_lex.specs.Tokens.{opens, closes, begins_comment, is_dashes, word_kind, token_of}
+use Rattle.rw_lex.specs.Tokens.{opens, closes, is_dashes, word_kind, token_of}
 
 -- so much further on
 abbrev pub further : ℕ → Option ℕ → Option ℕ
@@ -29,6 +29,11 @@ closing_len depth before [] = None
 closing_len depth before (b ∷ bs) =
     if opens before b then further 1 (closing_len (depth + 1) 0 bs)
     else (if closes before b then (if nat_eq depth 1 then Some 1 else further 1 (closing_len (depth - 1) 0 bs)) else further 1 (closing_len depth b bs))
+
+-- the bytes begin with two that open a block comment
+abbrev pub begins_comment : List ℕ → Bool
+begins_comment (a ∷ b ∷ bs) = opens a b
+begins_comment bs = false
 
 -- a block comment, whose inside is so long
 abbrev pub commented : Option ℕ → Piece
@@ -109,7 +114,7 @@ unfoldable pub tokens_from : Place → ℕ → List ℕ → Result (List Token) 
 tokens_from at line bytes = tokens_within (length bytes) at line bytes
 
 -- a call refuses exactly by this rule, unless memory ran out
-abbrev pub FailsBy : {X : Type 0} → Result X Fail → Option Refusal → Type 0
-FailsBy (Ok x) found = found ≡ None
+abbrev pub FailsBy : Result (Unit {0}) Fail → Option Refusal → Type 0
+FailsBy (Ok done) found = found ≡ None
 FailsBy (Err (fail.Refused refusal)) found = found ≡ Some refusal
 FailsBy (Err fail.OutOfMemory) found = Unit {0}

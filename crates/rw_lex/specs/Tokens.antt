@@ -1,7 +1,7 @@
 -- The token list of a source, and the rule that a source without one breaks (Haskell 2010 Report, sections 2.2
--- to 2.4, in this project's profile). A source is pieces, one after another: gaps and tokens, each of them as long
--- as it can be.
-use Rattle.std.specs.Prelude.{◌≡◌, ◌≢◌, ℕ, suc, ◌<◌, Bool, true, false, not, ◌||◌, ◌&&◌, nat_eq, nat_le, List, [], ◌∷◌, ◌++◌, length, codes, Option, Some, None, Result, Ok, Err, if◌then◌else◌}
+-- to 2.4, in this project's profile). The bytes are pieces, one after another. Each is a gap or a
+-- token, and it is the longest that starts at its byte.
+use Rattle.std.specs.Prelude.{◌≡◌, ◌≢◌, ℕ, suc, ◌≤◌, Bool, true, false, not, ◌||◌, ◌&&◌, nat_eq, nat_le, List, [], ◌∷◌, ◌++◌, length, codes, Result, Ok, Err, if◌then◌else◌}
 use Rattle.std.specs.List.{list_all}
 use Rattle.std.specs.Str.{bytes_eq}
 use Rattle.rw_base.specs.declared.place.Place.{Place}
@@ -10,13 +10,12 @@ use Rattle.rw_base.specs.declared.fail.Fail.TheVariants as fail
 use Rattle.rw_base.specs.declared.fail.Refusal.{Refusal}
 use Rattle.rw_base.specs.declared.rule.Rule.TheVariants.{E02, E03}
 use Rattle.rw_base.specs.Places.{place_after}
-use Rattle.rw_lex.specs.declared.bytes.Class.{Class}
 use Rattle.rw_lex.specs.declared.bytes.Class.TheVariants as class
 use Rattle.rw_lex.specs.declared.bytes.Run.TheVariants as run
 use Rattle.rw_lex.specs.declared.token.TokenKind.{TokenKind}
 use Rattle.rw_lex.specs.declared.token.TokenKind.TheVariants as kind
 use Rattle.rw_lex.specs.declared.token.Token.{Token}
-use Rattle.rw_lex.specs.Bytes.{class_of, is_letter_class, is_capital_class, IsRun}
+use Rattle.rw_lex.specs.Bytes.{class_of, is_letter_class, is_capital_class, is_run, stops}
 
 -- two bytes that open a block comment, and two that close one
 abbrev pub opens : ℕ → ℕ → Bool
@@ -24,11 +23,6 @@ opens a b = nat_eq a 123 && nat_eq b 45
 
 abbrev pub closes : ℕ → ℕ → Bool
 closes a b = nat_eq a 45 && nat_eq b 125
-
--- the bytes begin with two that open a block comment
-abbrev pub begins_comment : List ℕ → Bool
-begins_comment (a ∷ b ∷ bs) = opens a b
-begins_comment bs = false
 
 -- the bytes begin with two that open or close one
 abbrev pub begins_mark : List ℕ → Bool
@@ -73,15 +67,31 @@ begins_capital (b ∷ bs) = is_capital_class (class_of b)
 abbrev pub word_kind : List ℕ → TokenKind
 word_kind piece = if begins_capital piece then kind.Constructor else (if is_keyword piece then kind.Keyword else kind.Variable)
 
--- a gap (no kind) or a token, as long as it can be, before the rest of the source
-pub data IsPiece : Option TokenKind → List ℕ → List ℕ → Type 0 where
-  a_white : (b : ℕ) (rest : List ℕ) → class_of b ≡ class.White → IsPiece None (b ∷ []) rest
-  a_line_comment : (dashes line rest : List ℕ) → is_dashes dashes ≡ true → IsRun run.Symbols dashes (line ++ rest) → IsRun run.Line line rest → IsPiece None (dashes ++ line) rest
-  a_block_comment : (inside rest : List ℕ) → Closes 1 inside → IsPiece None (123 ∷ 45 ∷ inside) rest
-  a_word : (piece rest : List ℕ) → begins_word piece ≡ true → IsRun run.Word piece rest → IsPiece (Some (word_kind piece)) piece rest
-  a_number : (piece rest : List ℕ) → piece ≢ [] → IsRun run.Digits piece rest → IsPiece (Some kind.Number) piece rest
-  an_operator : (piece rest : List ℕ) → piece ≢ [] → is_dashes piece ≡ false → IsRun run.Symbols piece rest → IsPiece (Some kind.Operator) piece rest
-  a_special : (b : ℕ) (rest : List ℕ) → class_of b ≡ class.Special → begins_comment (b ∷ rest) ≡ false → IsPiece (Some kind.Special) (b ∷ []) rest
+-- no first part of these bytes closes an open block comment
+abbrev pub ClosesNever : List ℕ → Type 0
+ClosesNever bytes = (inside rest : List ℕ) → Closes 1 inside → inside ++ rest ≢ bytes
+
+-- a piece is a gap, a token of some kind, or a block comment that isn't closed
+pub data Sort : Type 0 where
+  gap : Sort
+  token : TokenKind → Sort
+  unclosed : Sort
+
+-- these bytes are a piece: dashes alone are a line comment and no operator
+pub data IsPiece : Sort → List ℕ → Type 0 where
+  white : (b : ℕ) → class_of b ≡ class.White → IsPiece gap (b ∷ [])
+  line_comment : (dashes line : List ℕ) → is_dashes dashes ≡ true → stops run.Symbols line ≡ true → is_run run.Line line ≡ true → IsPiece gap (dashes ++ line)
+  block_comment : (inside : List ℕ) → Closes 1 inside → IsPiece gap (123 ∷ 45 ∷ inside)
+  open_comment : (inside : List ℕ) → ClosesNever inside → IsPiece unclosed (123 ∷ 45 ∷ inside)
+  word : (piece : List ℕ) → begins_word piece ≡ true → is_run run.Word piece ≡ true → IsPiece (token (word_kind piece)) piece
+  number : (piece : List ℕ) → piece ≢ [] → is_run run.Digits piece ≡ true → IsPiece (token kind.Number) piece
+  operator : (piece : List ℕ) → piece ≢ [] → is_run run.Symbols piece ≡ true → is_dashes piece ≡ false → IsPiece (token kind.Operator) piece
+  special : (b : ℕ) → class_of b ≡ class.Special → IsPiece (token kind.Special) (b ∷ [])
+
+-- the longest piece that starts where `piece` does, with `rest` behind it
+pub record IsLongest (sort : Sort) (piece rest : List ℕ) : Type 0 where
+  pub is : IsPiece sort piece
+  pub longest : (other : Sort) (bytes more : List ℕ) → IsPiece other bytes → bytes ++ more ≡ piece ++ rest → length bytes ≤ length piece
 
 -- the token of a piece that stands behind these bytes; `line` is the line of the token before it, 0 if there is none
 abbrev pub token_of : TokenKind → List ℕ → Place → ℕ → Token
@@ -90,27 +100,24 @@ token_of kind piece at line = record { kind = kind; text = piece; at = at; first
 -- what stands behind `front` is pieces, and these are its tokens
 pub data IsTokensBehind : (front : List ℕ) (line : ℕ) (bytes : List ℕ) (tokens : List Token) → Type 0 where
   the_end : (front : List ℕ) (line : ℕ) → IsTokensBehind front line [] []
-  a_gap : (front piece rest : List ℕ) (line : ℕ) (tokens : List Token) → IsPiece None piece rest → IsTokensBehind (front ++ piece) line rest tokens → IsTokensBehind front line (piece ++ rest) tokens
-  a_token : (front piece rest : List ℕ) (line : ℕ) (kind : TokenKind) (tokens : List Token) → IsPiece (Some kind) piece rest → IsTokensBehind (front ++ piece) (place_after front).line rest tokens
+  a_gap : (front piece rest : List ℕ) (line : ℕ) (tokens : List Token) → IsLongest gap piece rest → IsTokensBehind (front ++ piece) line rest tokens → IsTokensBehind front line (piece ++ rest) tokens
+  a_token : (front piece rest : List ℕ) (line : ℕ) (kind : TokenKind) (tokens : List Token) → IsLongest (token kind) piece rest → IsTokensBehind (front ++ piece) (place_after front).line rest tokens
       → IsTokensBehind front line (piece ++ rest) (token_of kind piece (place_after front) line ∷ tokens)
 
 -- the token list of a source
 abbrev pub IsTokenList : (bytes : List ℕ) → (tokens : List Token) → Type 0
 IsTokenList bytes tokens = IsTokensBehind [] 0 bytes tokens
 
--- neither a gap nor a token starts here
+-- no piece starts here
 abbrev pub StartsNoPiece : List ℕ → Type 0
-StartsNoPiece bytes = (kind : Option TokenKind) (piece rest : List ℕ) → IsPiece kind piece rest → piece ++ rest ≢ bytes
+StartsNoPiece bytes = (sort : Sort) (piece rest : List ℕ) → IsPiece sort piece → piece ++ rest ≢ bytes
 
--- no first part of these bytes closes an open block comment, so it goes on to the end of the source
-abbrev pub ClosesNever : List ℕ → Type 0
-ClosesNever bytes = (inside rest : List ℕ) → Closes 1 inside → inside ++ rest ≢ bytes
-
--- pieces stand behind `front`, and then something that breaks this rule at this place
+-- what stands behind `front` is gaps and tokens, and then something that breaks this rule at this place
 pub data BreaksBehind : (front bytes : List ℕ) (refusal : Refusal) → Type 0 where
-  not_a_token : (front : List ℕ) (b : ℕ) (rest : List ℕ) → begins_comment (b ∷ rest) ≡ false → StartsNoPiece (b ∷ rest) → BreaksBehind front (b ∷ rest) (record { rule = E02; place = place_after front })
-  not_closed : (front rest : List ℕ) → ClosesNever rest → BreaksBehind front (123 ∷ 45 ∷ rest) (record { rule = E03; place = place_after front })
-  further_on : (front piece rest : List ℕ) (kind : Option TokenKind) (refusal : Refusal) → IsPiece kind piece rest → BreaksBehind (front ++ piece) rest refusal → BreaksBehind front (piece ++ rest) refusal
+  not_a_token : (front : List ℕ) (b : ℕ) (rest : List ℕ) → StartsNoPiece (b ∷ rest) → BreaksBehind front (b ∷ rest) (record { rule = E02; place = place_after front })
+  not_closed : (front piece rest : List ℕ) → IsLongest unclosed piece rest → BreaksBehind front (piece ++ rest) (record { rule = E03; place = place_after front })
+  after_gap : (front piece rest : List ℕ) (refusal : Refusal) → IsLongest gap piece rest → BreaksBehind (front ++ piece) rest refusal → BreaksBehind front (piece ++ rest) refusal
+  after_token : (front piece rest : List ℕ) (kind : TokenKind) (refusal : Refusal) → IsLongest (token kind) piece rest → BreaksBehind (front ++ piece) rest refusal → BreaksBehind front (piece ++ rest) refusal
 
 -- the rule that a source without a token list breaks, and where
 abbrev pub Breaks : (bytes : List ℕ) → (refusal : Refusal) → Type 0

@@ -44,8 +44,26 @@ pub fn class_of(b: u8) -> Class
         b'a'..=b'z' | b'_' => Class::Small,
         b'A'..=b'Z' => Class::Capital,
         b'0'..=b'9' => Class::Digit,
-        b'!' | b'#' | b'$' | b'%' | b'&' | b'*' | b'+' | b'.' | b'/' | b'<' | b'=' | b'>' | b'?'
-        | b'@' | b'\\' | b'^' | b'|' | b'-' | b'~' | b':' => Class::Symbol,
+        b'!'
+        | b'#'
+        | b'$'
+        | b'%'
+        | b'&'
+        | b'*'
+        | b'+'
+        | b'.'
+        | b'/'
+        | b'<'
+        | b'='
+        | b'>'
+        | b'?'
+        | b'@'
+        | b'\\'
+        | b'^'
+        | b'|'
+        | b'-'
+        | b'~'
+        | b':' => Class::Symbol,
         b'(' | b')' | b',' | b';' | b'`' | b'{' | b'}' => Class::Special,
         _ => Class::Other,
     }
@@ -56,7 +74,8 @@ fn is_in(kind: Run, b: u8) -> bool
     ensures { result ≡ spec.is_in kind b }
 {
     match kind {
-        Run::Word => matches!(class_of(b), Class::Small | Class::Capital | Class::Digit) || b == b'\'',
+        Run::Word => matches!(class_of(b), Class::Small | Class::Capital | Class::Digit)
+            || b == b'\'',
         Run::Digits => matches!(class_of(b), Class::Digit),
         Run::Symbols => matches!(class_of(b), Class::Symbol),
         Run::Line => b != b'\n',

@@ -4,7 +4,7 @@ ghost use Rattle.std.specs.List.{prefix_len};
 ghost use Rattle.rw_lex.specs.Bytes.{is_in};
 ghost use Rattle.rw_lex.specs.Scan as spec;
 ghost use Rattle.rw_lex.specs.declared.bytes.Run.TheVariants as run;
-ghost use Rattle.rw_lex.specs.Tokens.{begins_comment, is_dashes, is_word_of, is_keyword, declaration_words, inner_words, word_kind};
+ghost use Rattle.rw_lex.specs.Tokens.{is_dashes, is_word_of, is_keyword, declaration_words, inner_words, word_kind};
 
 use crate::TokenKind;
 use crate::bytes::{Class, Run, class_of, run_len};
@@ -63,7 +63,7 @@ fn closing_len(bytes: &[u8]) -> Option<usize>
 
 // Whether `{-` stands in front.
 fn opens_comment(bytes: &[u8]) -> bool
-    ensures { result ≡ begins_comment bytes.now }
+    ensures { result ≡ spec.begins_comment bytes.now }
 {
     match bytes {
         [a, b, ..] => *a == b'{' && *b == b'-',
