@@ -1,1 +1,5 @@
 pub mod Numbers
+pub mod Permuted
+pub mod SameBits
+pub mod Settling
+pub mod Registers

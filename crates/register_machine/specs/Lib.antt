@@ -4,3 +4,5 @@ pub mod Machine
 pub mod Decision
 pub mod OneRegister
 pub mod Design
+-- What holds of them.
+pub mod Laws

@@ -11,9 +11,11 @@ mod codes;
 mod decision;
 mod emit;
 mod functions;
+mod laws;
 mod machine;
 mod parts;
 mod processes;
 
 pub use emit::design;
+pub use laws::register_law;
 pub use machine::{Machine, State};
