@@ -3,3 +3,5 @@ pub mod Permuted
 pub mod SameBits
 pub mod Settling
 pub mod Registers
+pub mod Choices
+pub mod Tables
