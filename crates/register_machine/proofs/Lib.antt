@@ -5,3 +5,5 @@ pub mod Settling
 pub mod Registers
 pub mod Choices
 pub mod Tables
+pub mod Keeping
+pub mod Static
