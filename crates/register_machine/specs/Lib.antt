@@ -1,0 +1,8 @@
+-- The words that public contracts rest on.
+pub mod Codes
+pub mod Machine
+pub mod Decision
+pub mod OneRegister
+pub mod Design
+-- What holds of them.
+pub mod Laws
