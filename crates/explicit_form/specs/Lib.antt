@@ -3,5 +3,6 @@ pub mod Words
 pub mod Lists
 pub mod Grammar
 pub mod Fit
+pub mod Explicit
 -- What functions inside promise each other.
 pub mod Read

@@ -8,6 +8,7 @@
 mod form;
 mod names;
 mod read;
+mod source;
 mod unread;
 mod words;
 

@@ -8,4 +8,5 @@ mod token;
 
 pub use bytes::{Class, Run};
 
+pub use scan::{lex, one_token_list};
 pub use token::{Token, TokenKind};

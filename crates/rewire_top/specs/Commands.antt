@@ -1,0 +1,36 @@
+-- The commands, and which files each of them loads and saves.
+use Rattle.std.specs.Prelude.{◌≡◌, ◌≢◌, ℕ, List, [], ◌∷◌, Option, Some, None, if◌then◌else◌, bytes_eq, codes}
+use Rattle.rw_base.specs.Outside.{Files}
+
+-- what the words ask for
+pub data Command : Type 0 where
+  Compile : (file target : List ℕ) → Command
+
+-- the command that the words are, as a whole list, if they are one
+abbrev pub command_of : List (List ℕ) → Option Command
+command_of (word ∷ file ∷ target ∷ []) = if bytes_eq word (codes "compile") then Some (Compile file target) else None
+command_of _ = None
+
+-- the files that a command loads, in the order of the words
+abbrev pub files_of : Option Command → List (List ℕ)
+files_of None = []
+files_of (Some (Compile file target)) = file ∷ []
+
+-- the store holds each of these names
+abbrev pub HoldsAll : List (List ℕ) → Files → Type 0
+HoldsAll [] files = Unit {0}
+HoldsAll (name ∷ names) files = (files name ≢ None) × HoldsAll names files
+
+-- a command with a name to save under
+abbrev pub HasTarget : Option Command → Type 0
+HasTarget None = ⊥
+HasTarget (Some (Compile file target)) = Unit {0}
+
+-- the name that the command saves under
+abbrev pub SavesUnder : Option Command → List ℕ → Type 0
+SavesUnder None name = ⊥
+SavesUnder (Some (Compile file target)) name = name ≡ target
+
+-- every name that the command doesn't save under holds what it held
+abbrev pub KeepsOthers : Option Command → Files → Files → Type 0
+KeepsOthers command old new = (name : List ℕ) → (SavesUnder command name → ⊥) → new name ≡ old name

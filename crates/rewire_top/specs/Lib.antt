@@ -1,0 +1,7 @@
+-- The words that public contracts rest on.
+pub mod Commands
+pub mod Numbers
+pub mod Printed
+pub mod Answers
+-- What functions inside promise each other.
+pub mod Asked
