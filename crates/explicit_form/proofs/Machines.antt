@@ -1,10 +1,10 @@
 -- A tree of the explicit form whose names are in order gives a well-formed machine.
-use Rattle.std.proofs.Common.{◌≡◌, ℕ, zero, suc, ◌+◌, ◌<◌, ◌≤◌, ◌^◌, Bool, true, false, not, ◌&&◌, ◌||◌, cond, List, [], ◌∷◌, map, length, Option, Some, None, refl, sym, ◌∙◌, ap, subst, arith}
-use Rattle.std.specs.Prelude.{slice_index, slice_index_or, All, is_some, unwrap_or, find, bytes_eq, codes, nat_le}
+use Rattle.std.proofs.Common.{◌≡◌, ℕ, zero, suc, ◌+◌, ◌<◌, ◌≤◌, ◌^◌, Bool, true, false, not, ◌||◌, cond, List, [], ◌∷◌, map, length, Option, Some, None, refl, sym, ◌∙◌, ap, subst, arith}
+use Rattle.std.specs.Prelude.{slice_index, All, is_some, unwrap_or, find, bytes_eq, codes}
 use Rattle.std.specs.List.{list_any, list_all, position_or_len}
 use Rattle.std.specs.Option.{option_map}
 use Rattle.std.proofs.lemmas.List.{length-map}
-use Rattle.std.proofs.lemmas.List.Elements.{All-nil, All-cons, All-head, All-tail, All-map, All-get_or}
+use Rattle.std.proofs.lemmas.List.Elements.{All-nil, All-cons, All-head, All-tail, All-map}
 use Rattle.register_machine.specs.declared.machine.Machine.{Machine}
 use Rattle.register_machine.specs.declared.machine.State.{State}
 use Rattle.register_machine.specs.Machine.{IsState, IsMachine}
@@ -14,7 +14,7 @@ use Rattle.explicit_form.specs.declared.form.Function.{Function}
 use Rattle.explicit_form.specs.declared.form.Form.{Form}
 use Rattle.explicit_form.specs.Words.{Word}
 use Rattle.explicit_form.specs.Grammar.{IsForm}
-use Rattle.explicit_form.specs.Fit.{is_among, place_of, constructors_of, inputs_of, outputs_of, names_of, fits_datas, fits_names, fits_arm, entry_of, entry_for, entries_from, are_complete, fits_function, is_fit, state_of, machine_of}
+use Rattle.explicit_form.specs.Fit.{is_among, place_of, constructors_of, inputs_of, outputs_of, names_of, fits_names, fits_arm, entry_of, entry_for, entries_from, fits_function, is_fit, state_of, machine_of}
 use Rattle.explicit_form.proofs.Exact.{both, some_is}
 use Rattle.explicit_form.proofs.Sizes.{HasFew, form_few}
 
@@ -143,7 +143,7 @@ record FormFits (form : Form) : Type 0 where
   functions : list_all (fits_function (inputs_of form) (outputs_of form) (names_of form.functions)) form.functions ≡ true
 
 names_few : (names : List (List ℕ)) → fits_names names ≡ true → length names ≤ 1024
-names_few names e = let few : nat_le (length names) 1024 ≡ true = (both _ _ (both _ _ e).0).0 in grind (arith, few)
+names_few names e = grind (arith, e)
 
 form_fits : (form : Form) → is_fit form ≡ true → FormFits form
 form_fits form e =
