@@ -25,7 +25,7 @@ some_is a b e = cc
 pub moved : {A : Type 0} (P : A → Type 0) (a b : A) → Some a ≡ Some b → P a → P b
 moved P a b e p = subst P (some_is a b e) p
 
-both : (a b : Bool) → (a && b) ≡ true → (a ≡ true) × (b ≡ true)
+pub both : (a b : Bool) → (a && b) ≡ true → (a ≡ true) × (b ≡ true)
 both true b h = (refl, h)
 both false b h = absurd (cc)
 

@@ -3,3 +3,5 @@ pub mod Turns
 pub mod Budgets
 pub mod Exact
 pub mod Forms
+pub mod Sizes
+pub mod Machines
