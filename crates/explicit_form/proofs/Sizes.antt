@@ -1,10 +1,11 @@
 -- How much a source can hold: no more tokens than bytes, and no more constructors of one type than words.
-use Rattle.std.proofs.Common.{◌≡◌, ◌≢◌, ℕ, ◌+◌, ◌<◌, ◌≤◌, true, List, [], ◌∷◌, length, Option, refl, arith, length-append}
-use Rattle.std.specs.Prelude.{All, is_some, codes}
+use Rattle.std.proofs.Common.{◌≡◌, ◌≢◌, ℕ, ◌+◌, ◌<◌, ◌≤◌, Bool, true, false, List, [], ◌∷◌, length, refl, arith, length-append}
+use Rattle.std.specs.Prelude.{All, codes}
 use Rattle.std.proofs.lemmas.List.Elements.{All-nil, All-cons}
 use Rattle.rw_lex.specs.declared.token.Token.{Token}
 use Rattle.rw_lex.specs.declared.token.TokenKind.{TokenKind}
-use Rattle.rw_lex.specs.Tokens.{begins_word, IsPiece, a_white, a_line_comment, a_block_comment, a_word, a_number, an_operator, a_special, IsTokensBehind, the_end, a_gap, a_token, IsTokenList}
+use Rattle.rw_lex.specs.Tokens.{begins_word, Sort, gap, token, unclosed, IsPiece, white, line_comment, block_comment, open_comment, word, number, IsTokensBehind, the_end, a_gap, a_token, IsTokenList}
+use Rattle.rw_lex.specs.Tokens as piece
 use Rattle.explicit_form.specs.declared.form.Data.{Data}
 use Rattle.explicit_form.specs.declared.form.Form.{Form}
 use Rattle.explicit_form.specs.Words.{Word, operator, special}
@@ -20,21 +21,32 @@ word_not_empty : (piece : List ℕ) → begins_word piece ≡ true → 0 < lengt
 word_not_empty [] h = absurd (cc)
 word_not_empty (b ∷ bs) h = omega arith
 
+is_token : Sort → Bool
+is_token gap = false
+is_token (token kind) = true
+is_token unclosed = false
+
 -- a token has bytes
-token_not_empty : {kind : Option TokenKind} {piece rest : List ℕ} → IsPiece kind piece rest → is_some kind ≡ true → 0 < length piece
-token_not_empty (a_white b rest c) e = absurd (cc)
-token_not_empty (a_line_comment dashes line rest d r l) e = absurd (cc)
-token_not_empty (a_block_comment inside rest c) e = absurd (cc)
-token_not_empty (a_word piece rest b r) e = word_not_empty piece b
-token_not_empty (a_number piece rest n r) e = not_empty piece n
-token_not_empty (an_operator piece rest n d r) e = not_empty piece n
-token_not_empty (a_special b rest c o) e = omega arith
+token_not_empty : {sort : Sort} {piece : List ℕ} → IsPiece sort piece → is_token sort ≡ true → 0 < length piece
+unfolding is_token
+token_not_empty (white b c) e = absurd (cc)
+token_not_empty (line_comment dashes line d s r) e = absurd (cc)
+token_not_empty (block_comment inside c) e = absurd (cc)
+token_not_empty (open_comment inside c) e = absurd (cc)
+token_not_empty (word piece b r) e = word_not_empty piece b
+token_not_empty (number piece n r) e = not_empty piece n
+token_not_empty (piece.operator bytes n r d) e = not_empty bytes n
+token_not_empty (piece.special b c) e = omega arith
+
+token_some : (kind : TokenKind) (bytes : List ℕ) → IsPiece (token kind) bytes → 0 < length bytes
+unfolding is_token
+token_some kind bytes p = token_not_empty p refl
 
 tokens_few_behind : {front : List ℕ} {line : ℕ} {bytes : List ℕ} {tokens : List Token} → IsTokensBehind front line bytes tokens → length tokens ≤ length bytes
 tokens_few_behind (the_end front line) = omega arith
 tokens_few_behind (a_gap front piece rest line tokens p d) = let h = tokens_few_behind d in let l = length-append piece rest in omega arith
 tokens_few_behind (a_token front piece rest line kind tokens p d) =
-    let h = tokens_few_behind d in let l = length-append piece rest in let some = token_not_empty p refl in omega arith
+    let h = tokens_few_behind d in let l = length-append piece rest in let some = token_some kind piece p.is in omega arith
 
 -- a source has no more tokens than bytes
 pub tokens_few : (bytes : List ℕ) (tokens : List Token) → IsTokenList bytes tokens → length tokens ≤ length bytes

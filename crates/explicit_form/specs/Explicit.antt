@@ -5,6 +5,7 @@ use Rattle.rw_lex.specs.declared.token.Token.{Token}
 use Rattle.rw_lex.specs.Tokens.{IsTokenList}
 use Rattle.vh_tree.specs.Canonical.{canonical_text}
 use Rattle.register_machine.specs.Design.{machine_design}
+use Rattle.register_machine.specs.declared.machine.Machine.{Machine}
 use Rattle.explicit_form.specs.declared.form.Form.{Form}
 use Rattle.explicit_form.specs.Words.{words_of}
 use Rattle.explicit_form.specs.Grammar.{IsForm}
@@ -28,16 +29,24 @@ pub record HasTokens (source : List ℕ) (tokens : List Token) : Type 0 where
   pub listed : IsTokenList source tokens
   pub bare : HasNoComment source tokens
 
--- the source is of the explicit form, and this is its tree
-pub record IsExplicit (source : List ℕ) (form : Form) : Type 0 where
+-- the tokens of the source spell this tree
+pub record Spells (source : List ℕ) (form : Form) : Type 0 where
   pub tokens : List Token
   pub has : HasTokens source tokens
   pub spells : IsForm (words_of tokens) form
+
+-- the source is of the explicit form, and this is its tree
+pub record IsExplicit (source : List ℕ) (form : Form) : Type 0 where
+  pub spelled : Spells source form
   pub fits : is_fit form ≡ true
 
 -- the source is of the explicit form
 abbrev pub IsExplicitSource : List ℕ → Type 0
 IsExplicitSource source = (form : Form) × IsExplicit source form
+
+-- the source is of the explicit form, and this is its machine
+abbrev pub IsMachineOfSource : List ℕ → Machine → Type 0
+IsMachineOfSource source m = (form : Form) × IsExplicit source form × (m ≡ machine_of form)
 
 -- the source is of the explicit form, and the text is the canonical one of the design of its machine
 abbrev pub IsCompiled : List ℕ → List ℕ → Type 0

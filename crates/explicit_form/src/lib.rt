@@ -5,6 +5,7 @@
 //! The program's one call compiles by it. Begin with `specs/Grammar.antt`, then `form.rt`.
 #![tactic(auto)]
 
+mod fit;
 mod form;
 mod names;
 mod read;
@@ -14,5 +15,5 @@ mod words;
 
 pub use form::{Arm, Data, Form, Function, Ports};
 pub use read::read_form;
-pub use source::compile;
+pub use source::{compile, read_machine};
 pub use unread::Unread;

@@ -2,13 +2,20 @@
 ghost use Rattle.std.specs.Prelude.{◌≡◌, ◌↔◌, List, IsTrue, IfOk, IsErrOf, not, filter};
 ghost use Rattle.std.specs.List.{flat_map};
 ghost use Rattle.rw_lex.specs.declared.token.Token.{Token};
-ghost use Rattle.explicit_form.specs.Explicit.{HasNoComment, HasTokens, IsCompiled, IsExplicitSource};
+ghost use Rattle.explicit_form.specs.Explicit.{HasNoComment, HasTokens, Spells, IsCompiled, IsExplicitSource, IsMachineOfSource};
+ghost use Rattle.explicit_form.specs.declared.form.Form.{Form};
+ghost use Rattle.register_machine.specs.Machine.{IsMachine};
 ghost use Rattle.explicit_form.specs.Explicit as explicit;
 
 use crate::Unread;
+use crate::fit::machine;
+use crate::form::Form;
+use crate::read::read_form;
+use register_machine::{Machine, design};
 use rw_base::Fail;
 use rw_lex::{Token, lex};
 use std::alloc::{AllocError, Global};
+use vhdl_print::print;
 
 // How many bytes a source may have.
 const MOST_BYTES: usize = 262_144;
@@ -71,15 +78,38 @@ fn bare_tokens(alloc: Global, source: &[u8]) -> Result<Vec<Token>, Unread>
     }
 }
 
-/// The VHDL text of a source of the explicit form.
+// The tree that the tokens of a source spell.
+fn read_tree(alloc: Global, source: &[u8]) -> Result<Form, Unread>
+    ensures found { IfOk result (λ form. Spells source.now form) }
+    ensures refused { IsErrOf result Unread.NotOfTheForm → (form : Form) → Spells source.now form → ⊥ }
+    ensures only { IfOk result (λ found. (form : Form) → Spells source.now form → form ≡ found) }
+{
+    let tokens = bare_tokens(alloc, source)?;
+    read_form(alloc, &tokens)
+}
+
+/// The machine of a source of the explicit form: a state for each function, in the order of the source.
 ///
 /// `source` are the bytes of the source. The answer is `NotOfTheForm` exactly where it isn't of the explicit form:
 /// where it has more than 262,144 bytes, no token list, a comment, tokens that are not of the grammar, or names
 /// that are not in order.
+pub fn read_machine(alloc: Global, source: &[u8]) -> Result<Machine, Unread>
+    ensures found { IfOk result (λ m. IsMachineOfSource source.now m) }
+    ensures refused { IsErrOf result Unread.NotOfTheForm → IsExplicitSource source.now → ⊥ }
+    ensures fits { IfOk result IsMachine }
+{
+    let form = read_tree(alloc, source)?;
+    machine(alloc, &form)
+}
+
+/// The VHDL text of a source of the explicit form: the canonical text of the design of its machine.
+///
+/// `source` are the bytes of the source. The answer is `NotOfTheForm` exactly where it isn't of the explicit form.
 pub fn compile(alloc: Global, source: &[u8]) -> Result<Vec<u8>, Unread>
     ensures compiled { IfOk result (λ text. IsCompiled source.now text.items) }
     ensures refused { IsErrOf result Unread.NotOfTheForm → IsExplicitSource source.now → ⊥ }
 {
-    let tokens = bare_tokens(alloc, source)?;
-    Err(Unread::OutOfMemory)
+    let machine = read_machine(alloc, source)?;
+    let design = design(alloc, &machine)?;
+    Ok(print(alloc, &design)?)
 }
