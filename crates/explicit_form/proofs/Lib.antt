@@ -3,3 +3,5 @@ pub mod Turns
 pub mod Budgets
 pub mod Exact
 pub mod Forms
+-- Lemmas about names that are new, and about the slots of inputs.
+pub mod News

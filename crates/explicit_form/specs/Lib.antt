@@ -5,3 +5,4 @@ pub mod Grammar
 pub mod Fit
 -- What functions inside promise each other.
 pub mod Read
+pub mod Judged

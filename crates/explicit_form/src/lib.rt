@@ -6,8 +6,10 @@
 #![tactic(auto)]
 
 mod form;
+mod judge;
 mod names;
 mod read;
+mod taken;
 mod unread;
 mod words;
 
