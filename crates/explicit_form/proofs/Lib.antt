@@ -5,3 +5,5 @@ pub mod Exact
 pub mod Forms
 -- Lemmas about names that are new, and about the slots of inputs.
 pub mod News
+pub mod Slots
+pub mod Arms

@@ -80,10 +80,10 @@ new_part same seen parts p [] one h e = absurd (cc)
 new_part same seen parts p (x ∷ all) one h e =
     let k = both (are_new same seen (parts x)) (are_new same (seen ++ parts x) (flat_map parts all)) (sym (new_many same seen (parts x) (flat_map parts all)) ∙ h) in
     let rest : are_new same seen (flat_map parts all) ≡ true =
-        new_beside_fewer same seen (seen ++ parts x) (flat_map parts all) (λ y g. (apart _ _ (sym (list_any-append (same y) seen (parts x)) ∙ g)).0) k.1 in
+    new_beside_fewer same seen (seen ++ parts x) (flat_map parts all) (λ y g. (apart _ _ (sym (list_any-append (same y) seen (parts x)) ∙ g)).0) k.1 in
     let cases : (b : Bool) → cond b (Some x) (find p all) ≡ Some one → are_new same seen (parts one) ≡ true =
-        λ (b : Bool). elim b as (λ v. cond v (Some x) (find p all) ≡ Some one → are_new same seen (parts one) ≡ true)
-            [ true ↦ λ g. (let i : x ≡ one = cc in subst (λ z. are_new same seen (parts z) ≡ true) i k.0) | false ↦ λ g. new_part same seen parts p all one rest g ] in
+    λ (b : Bool). elim b as (λ v. cond v (Some x) (find p all) ≡ Some one → are_new same seen (parts one) ≡ true)
+    [ true ↦ λ g. (let i : x ≡ one = cc in subst (λ z. are_new same seen (parts z) ≡ true) i k.0) | false ↦ λ g. new_part same seen parts p all one rest g ] in
     cases (p x) e
 
 -- what is left, from its first item on

@@ -53,7 +53,12 @@ pub fn judge_constructors(alloc: Global, datas: &[Data]) -> Result<(), Unread>
 {
     let mut seen = Names::new(alloc);
     for data in datas {
-        add_all(alloc, Kind::Constructor, &mut seen, data.constructors.as_slice())?;
+        add_all(
+            alloc,
+            Kind::Constructor,
+            &mut seen,
+            data.constructors.as_slice(),
+        )?;
     }
     Ok(())
 }
@@ -106,6 +111,11 @@ pub fn constructors(alloc: Global, datas: &[Data], name: &Name) -> Result<Names,
         return Err(Unread::NotOfTheForm);
     };
     let mut all = Names::new(alloc);
-    add_all(alloc, Kind::Constructor, &mut all, data.constructors.as_slice())?;
+    add_all(
+        alloc,
+        Kind::Constructor,
+        &mut all,
+        data.constructors.as_slice(),
+    )?;
     Ok(all)
 }

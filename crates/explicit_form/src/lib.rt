@@ -5,6 +5,7 @@
 //! The program's one call compiles by it. Begin with `specs/Grammar.antt`, then `form.rt`.
 #![tactic(auto)]
 
+mod fit;
 mod form;
 mod judge;
 mod names;
@@ -13,6 +14,7 @@ mod taken;
 mod unread;
 mod words;
 
+pub use fit::machine;
 pub use form::{Arm, Data, Form, Function, Ports};
 pub use read::read_form;
 pub use unread::Unread;

@@ -40,6 +40,13 @@ impl Names {
         Ok(added)
     }
 
+    // Whether the name is among them.
+    pub fn contains(&self, name: &Name) -> bool
+        ensures { result ≡ is_among name.now self.now }
+    {
+        self.set.contains(name)
+    }
+
     // How many there are.
     pub fn len(&self) -> usize
         ensures { result ≡ length self.now }
