@@ -1,10 +1,9 @@
 -- The slots of inputs, and what their alternatives lead to.
-use Rattle.std.proofs.Common.{◌≡◌, ℕ, zero, suc, ◌+◌, ◌<◌, Bool, true, false, cond, not, ◌&&◌, ◌||◌, List, [], ◌∷◌, ◌++◌, length, drop, take, get_or, set, replicate, map, Option, Some, None, is_some, refl, sym, ap, subst, ◌∙◌, arith, rules, add-one, nat_eq, nat_lt}
+use Rattle.std.proofs.Common.{◌≡◌, ℕ, zero, suc, ◌+◌, ◌<◌, Bool, true, false, cond, not, ◌||◌, List, [], ◌∷◌, ◌++◌, length, get_or, set, replicate, map, Option, Some, None, is_some, refl, sym, ap, ◌∙◌, arith, rules, nat_eq, nat_lt}
 use Rattle.std.specs.Prelude.{find, position, ok_or, Result}
 use Rattle.std.specs.List.{list_any, position_or_len}
 use Rattle.std.specs.Option.{option_map}
 use Rattle.std.proofs.lemmas.Bool.Decides.{nat_tests}
-use Rattle.std.proofs.lemmas.Grind.{common_steps}
 use Rattle.explicit_form.specs.declared.unread.Unread.{Unread}
 use Rattle.explicit_form.specs.declared.unread.Unread.TheVariants as fail
 use Rattle.explicit_form.specs.Judged.{Judges}

@@ -1,5 +1,5 @@
 -- When the names of a tree of the explicit form are in order, and the machine that it then is.
-use Rattle.std.specs.Prelude.{ℕ, zero, suc, ◌+◌, Bool, true, false, not, ◌&&◌, nat_eq, nat_le, List, [], ◌∷◌, ◌++◌, length, map, Option, Some, None, is_some, unwrap_or, bytes_eq, codes, find, if◌then◌else◌}
+use Rattle.std.specs.Prelude.{ℕ, zero, suc, ◌+◌, Bool, true, not, ◌&&◌, nat_eq, nat_le, List, [], ◌∷◌, ◌++◌, length, map, Option, Some, is_some, unwrap_or, bytes_eq, codes, find, if◌then◌else◌}
 use Rattle.std.specs.List.{list_any, list_all, flat_map, position_or_len}
 use Rattle.std.specs.Option.{option_map}
 use Rattle.explicit_form.specs.declared.form.Data.{Data}

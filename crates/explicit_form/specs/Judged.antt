@@ -3,12 +3,12 @@ use Rattle.std.specs.Prelude.{ℕ, Bool, true, false, List, ◌≡◌, Result, O
 use Rattle.explicit_form.specs.declared.unread.Unread.{Unread}
 use Rattle.explicit_form.specs.declared.unread.Unread.TheVariants as fail
 use Rattle.explicit_form.specs.declared.taken.Kind.{Kind}
-use Rattle.explicit_form.specs.declared.taken.Kind.TheVariants.{Type_, Constructor, Function}
+use Rattle.explicit_form.specs.declared.taken.Kind.TheVariants.{Data, Constructor, Function}
 use Rattle.explicit_form.specs.Fit.{taken_types, taken_constructors, taken_functions}
 
 -- the names that no declaration of this kind has
 abbrev pub taken_of : Kind → List (List ℕ)
-taken_of Type_ = taken_types
+taken_of Data = taken_types
 taken_of Constructor = taken_constructors
 taken_of Function = taken_functions
 

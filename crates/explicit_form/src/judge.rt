@@ -42,7 +42,7 @@ pub fn judge_types(alloc: Global, datas: &[Data]) -> Result<(), Unread>
 {
     let mut seen = Names::new(alloc);
     for data in datas {
-        add_new(alloc, Kind::Type_, &mut seen, &data.name)?;
+        add_new(alloc, Kind::Data, &mut seen, &data.name)?;
     }
     Ok(())
 }

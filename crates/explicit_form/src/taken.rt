@@ -6,7 +6,7 @@ ghost use Rattle.explicit_form.specs.Judged.{taken_of};
 // What is declared.
 #[derive(Clone, Copy)]
 pub enum Kind {
-    Type_,
+    Data,
     Constructor,
     Function,
 }
@@ -16,7 +16,7 @@ pub fn is_taken(kind: Kind, name: &[u8]) -> bool
     ensures { result ≡ is_among name.now (taken_of kind) }
 {
     match kind {
-        Kind::Type_ => is_taken_type(name),
+        Kind::Data => is_taken_type(name),
         Kind::Constructor => is_taken_constructor(name),
         Kind::Function => is_taken_function(name),
     }

@@ -1,4 +1,4 @@
-use Rattle.std.specs.Prelude.{bytes_eq, ◌≡◌}
+use Rattle.std.specs.Prelude.{bytes_eq}
 use Rattle.std.proofs.Common.{◌∙◌, ap}
 use Rattle.std.specs.Prelude.{ok_or}
 use Rattle.explicit_form.specs.declared.unread.Unread.TheVariants as fail

@@ -1,7 +1,7 @@
-use Rattle.std.proofs.Common.{◌≡◌, [], ◌∙◌, ap, sym, refl, rules, arith, Some, None, ℕ, ◌+◌, ◌&&◌, true, set, map, length, take, drop, replicate, nat_eq}
+use Rattle.std.proofs.Common.{◌≡◌, [], ◌∙◌, ap, sym, refl, rules, arith, None, ℕ, ◌&&◌, map, length, drop, replicate, nat_eq}
 use Rattle.std.specs.List.{list_all}
 use Rattle.std.proofs.lemmas.Result.{err_from_is_err_and}
-use Rattle.explicit_form.specs.Fit.{fits_arm, entry_of, entries_from, are_new}
+use Rattle.explicit_form.specs.Fit.{fits_arm, entry_of, are_new}
 use Rattle.explicit_form.proofs.News.{refused_on}
 use Rattle.explicit_form.proofs.Slots.{no_entries}
 use Rattle.explicit_form.proofs.Arms.{written_back, is_free_in, arms_stop, fits_step, fresh_step, filled_step}

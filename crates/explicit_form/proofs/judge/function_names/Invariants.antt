@@ -1,4 +1,4 @@
-use Rattle.std.proofs.Common.{◌≡◌, ◌++◌, drop, take, map}
+use Rattle.std.proofs.Common.{◌≡◌, ◌++◌, drop, take}
 use Rattle.std.specs.Prelude.{bytes_eq}
 use Rattle.explicit_form.specs.Fit.{are_new, taken_functions, names_of}
 use Rattle.explicit_form.proofs.judge.function_names.Given as goal
