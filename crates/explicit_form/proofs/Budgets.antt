@@ -1,5 +1,5 @@
 -- As many turns as there are tokens.
-use Rattle.std.proofs.Common.{◌≡◌, ℕ, List, length, ap}
+use Rattle.std.proofs.Common.{◌≡◌, List, length, ap}
 use Rattle.std.specs.Prelude.{codes}
 use Rattle.std.proofs.lemmas.List.{length-map}
 use Rattle.rw_lex.specs.declared.token.Token.{Token}

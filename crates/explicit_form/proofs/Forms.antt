@@ -1,5 +1,5 @@
 -- The readers of the explicit form are exact.
-use Rattle.std.proofs.Common.{◌≡◌, ℕ, ◌+◌, ◌<◌, ◌≤◌, Bool, true, false, cond, List, [], ◌∷◌, length, drop, Option, Some, None, refl, sym, ap, subst, ◌∙◌, arith, rules, inl, inr}
+use Rattle.std.proofs.Common.{◌≡◌, ℕ, ◌<◌, true, false, List, [], ◌∷◌, length, Some, None, refl, sym, ap, subst, ◌∙◌, arith, inl, inr}
 use Rattle.std.specs.Prelude.{codes, nat_lt}
 use Rattle.rw_lex.specs.declared.token.TokenKind.TheVariants.{Variable, Constructor}
 use Rattle.explicit_form.specs.declared.form.Data.{Data}
@@ -10,8 +10,8 @@ use Rattle.explicit_form.specs.declared.form.Form.{Form}
 use Rattle.explicit_form.specs.Words.{Word, same_kind, sees, variable, constructor, keyword, operator, special}
 use Rattle.explicit_form.specs.Lists.{IsSeparated, IsMany}
 use Rattle.explicit_form.specs.Grammar.{IsConstructor, a_constructor, IsData, a_data, type_then, signature_then, body_then, IsArm, an_arm, IsFunction, a_function, IsForm, a_form}
-use Rattle.explicit_form.specs.Read.{Read, ◌>>=◌, after, name_at, separated_at, many_at, constructors_at, data_at, datas_at, unit_at, ports_at, type_at, binding_at, start_at, arm_at, arms_at, signature_at, signal_at, lambda_at, case_at, choice_at, function_at, functions_at, if_ended, form_at}
-use Rattle.explicit_form.proofs.Exact.{bind_some, chosen, some_is, moved, word_seen, after_is, after_word, name_is, name_word_read, Exact, separated_sound, separated_shorter, separated_read, many_sound, many_shorter, many_read}
+use Rattle.explicit_form.specs.Read.{after, name_at, separated_at, constructors_at, data_at, datas_at, unit_at, ports_at, type_at, binding_at, start_at, arm_at, arms_at, signature_at, signal_at, lambda_at, case_at, choice_at, function_at, functions_at, if_ended, form_at}
+use Rattle.explicit_form.proofs.Exact.{bind_some, chosen, some_is, moved, word_seen, after_is, after_word, name_is, name_word_read, Exact, separated_sound, separated_shorter, separated_read, many_sound, many_read}
 
 -- ---- C
 constructor_sound : (ts : List Word) (p : List ℕ × List Word) → name_at Constructor ts ≡ Some p → IsConstructor ts p.0 p.1

@@ -5,3 +5,7 @@ pub mod Exact
 pub mod Forms
 pub mod Sizes
 pub mod Machines
+-- Lemmas about names that are new, and about the slots of inputs.
+pub mod News
+pub mod Slots
+pub mod Arms

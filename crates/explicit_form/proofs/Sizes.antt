@@ -5,7 +5,7 @@ use Rattle.std.proofs.lemmas.List.Elements.{All-nil, All-cons}
 use Rattle.rw_lex.specs.declared.token.Token.{Token}
 use Rattle.rw_lex.specs.declared.token.TokenKind.{TokenKind}
 use Rattle.rw_lex.specs.Tokens.{begins_word, Sort, gap, token, unclosed, IsPiece, white, line_comment, block_comment, open_comment, word, number, IsTokensBehind, the_end, a_gap, a_token, IsTokenList}
-use Rattle.rw_lex.specs.Tokens as piece
+use Rattle.rw_lex.specs.Tokens as pieces
 use Rattle.explicit_form.specs.declared.form.Data.{Data}
 use Rattle.explicit_form.specs.declared.form.Form.{Form}
 use Rattle.explicit_form.specs.Words.{Word, operator, special}
@@ -35,8 +35,8 @@ token_not_empty (block_comment inside c) e = absurd (cc)
 token_not_empty (open_comment inside c) e = absurd (cc)
 token_not_empty (word piece b r) e = word_not_empty piece b
 token_not_empty (number piece n r) e = not_empty piece n
-token_not_empty (piece.operator bytes n r d) e = not_empty bytes n
-token_not_empty (piece.special b c) e = omega arith
+token_not_empty (pieces.operator bytes n r d) e = not_empty bytes n
+token_not_empty (pieces.special b c) e = omega arith
 
 token_some : (kind : TokenKind) (bytes : List ℕ) → IsPiece (token kind) bytes → 0 < length bytes
 unfolding is_token

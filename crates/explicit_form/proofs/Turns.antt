@@ -1,5 +1,5 @@
 -- One turn of each kind of loop.
-use Rattle.std.proofs.Common.{◌≡◌, ℕ, zero, suc, ◌+◌, Bool, true, false, List, [], ◌∷◌, ◌++◌, drop, Option, Some, None, refl, sym, ◌∙◌, ap, append_assoc, append-nil, add-one, ◌⊎◌, inl, inr}
+use Rattle.std.proofs.Common.{◌≡◌, ℕ, zero, suc, ◌+◌, true, false, List, [], ◌∷◌, ◌++◌, drop, Option, Some, None, refl, sym, ◌∙◌, ap, append_assoc, append-nil, add-one, ◌⊎◌, inl, inr}
 use Rattle.explicit_form.specs.declared.unread.Unread.{Unread}
 use Rattle.explicit_form.specs.declared.unread.Unread.TheVariants as fail
 use Rattle.explicit_form.specs.Words.{Word, sees}

@@ -1,5 +1,5 @@
 -- When the names of a tree of the explicit form are in order, and the machine that it then is.
-use Rattle.std.specs.Prelude.{ℕ, zero, suc, ◌+◌, Bool, true, false, not, ◌&&◌, nat_eq, nat_le, List, [], ◌∷◌, ◌++◌, length, map, Option, Some, None, is_some, unwrap_or, bytes_eq, codes, find, if◌then◌else◌}
+use Rattle.std.specs.Prelude.{ℕ, zero, suc, ◌+◌, Bool, true, not, ◌&&◌, nat_eq, nat_le, List, [], ◌∷◌, ◌++◌, length, map, Option, Some, is_some, unwrap_or, bytes_eq, codes, find, if◌then◌else◌}
 use Rattle.std.specs.List.{list_any, list_all, flat_map, position_or_len}
 use Rattle.std.specs.Option.{option_map}
 use Rattle.explicit_form.specs.declared.form.Data.{Data}
@@ -13,18 +13,14 @@ use Rattle.register_machine.specs.declared.machine.State.{State}
 abbrev pub is_among : List ℕ → List (List ℕ) → Bool
 is_among name names = list_any (bytes_eq name) names
 
--- each is new: it stands neither among those seen nor before itself
+-- each is new: it stands neither among those seen before nor earlier in the list
 abbrev pub are_new : {A : Type 0} → (A → A → Bool) → List A → List A → Bool
 are_new same seen [] = true
 are_new same seen (x ∷ xs) = not (list_any (same x) seen) && are_new same (seen ++ x ∷ []) xs
 
--- names of which no two are equal
-abbrev pub are_distinct : List (List ℕ) → Bool
-are_distinct = are_new bytes_eq []
-
--- none of these names is taken
+-- names of which none is taken and no two are equal
 abbrev pub are_free : List (List ℕ) → List (List ℕ) → Bool
-are_free taken names = list_all (λ name. not (is_among name taken)) names
+are_free = are_new bytes_eq
 
 -- the place of a name among distinct ones, from 0
 abbrev pub place_of : List (List ℕ) → List ℕ → ℕ
@@ -61,16 +57,13 @@ outputs_of form = unwrap_or (constructors_of form.datas form.ports.output) []
 abbrev pub names_of : List Function → List (List ℕ)
 names_of = map (λ f. f.name)
 
--- declared types and constructors are new
+-- declared types and constructors are free and distinct
 abbrev pub fits_datas : List Data → Bool
-fits_datas datas =
-    let types = map (λ d. d.name) datas in
-    let constructors = flat_map (λ d. d.constructors) datas in
-    are_free taken_types types && are_distinct types && are_free taken_constructors constructors && are_distinct constructors
+fits_datas datas = are_free taken_types (map (λ d. d.name) datas) && are_free taken_constructors (flat_map (λ d. d.constructors) datas)
 
--- at most 1,024 functions, whose names are new
+-- at most 1,024 functions, whose names are free and distinct
 abbrev pub fits_names : List (List ℕ) → Bool
-fits_names names = nat_le (length names) 1024 && are_free taken_functions names && are_distinct names
+fits_names names = nat_le (length names) 1024 && are_free taken_functions names
 
 -- an alternative is for an input and goes on with a function: its input and that function, by their places
 abbrev pub entry_of : (inputs names : List (List ℕ)) → Arm → ℕ × ℕ
@@ -81,7 +74,7 @@ fits_arm inputs names arm = is_among arm.constructor inputs && is_among arm.targ
 
 -- what the entry for an input leads to
 abbrev pub entry_for : ℕ → List (ℕ × ℕ) → Option ℕ
-entry_for input entries = option_map (λ e. e.1) (find (λ e. nat_eq e.0 input) entries)
+entry_for input entries = option_map (λ e. e.1) (find (λ e. nat_eq input e.0) entries)
 
 -- the entries for the inputs from this one on
 abbrev pub entries_from : ℕ → ℕ → List (ℕ × ℕ) → List (Option ℕ)

@@ -6,3 +6,4 @@ pub mod Fit
 pub mod Explicit
 -- What functions inside promise each other.
 pub mod Read
+pub mod Judged

@@ -7,13 +7,14 @@
 
 mod fit;
 mod form;
+mod judge;
 mod names;
 mod read;
 mod source;
+mod taken;
 mod unread;
 mod words;
 
 pub use form::{Arm, Data, Form, Function, Ports};
-pub use read::read_form;
 pub use source::{compile, read_machine};
 pub use unread::Unread;

@@ -1,5 +1,5 @@
 // Names in the order of first sight, each with its place.
-ghost use Rattle.std.specs.Prelude.{◌≡◌, ◌++◌, ◌∷◌, [], not, IfOk, position, bytes_eq, if◌then◌else◌};
+ghost use Rattle.std.specs.Prelude.{◌≡◌, ◌++◌, ◌∷◌, [], not, length, IfOk, position, bytes_eq, if◌then◌else◌};
 ghost use Rattle.explicit_form.specs.Fit.{is_among};
 
 use indexmap::IndexSet;
@@ -38,6 +38,20 @@ impl Names {
     {
         let (_, added) = self.set.insert_full(name)?;
         Ok(added)
+    }
+
+    // Whether the name is among them.
+    pub fn contains(&self, name: &Name) -> bool
+        ensures { result ≡ is_among name.now self.now }
+    {
+        self.set.contains(name)
+    }
+
+    // How many there are.
+    pub fn len(&self) -> usize
+        ensures { result ≡ length self.now }
+    {
+        self.set.len()
     }
 
     // The place of a name, from 0.
