@@ -5,6 +5,7 @@ pub mod Exact
 pub mod Forms
 pub mod Sizes
 pub mod Machines
+pub mod Wholes
 -- Lemmas about names that are new, and about the slots of inputs.
 pub mod News
 pub mod Slots
