@@ -23,7 +23,7 @@ one_bit front rest b k e =
     let one : k + 1 - k ≡ 1 = omega arith in
     rw (at, one, drop-append_seam) refl
 
-length-binary : (k n : ℕ) → length (binary k n) ≡ k
+pub length-binary : (k n : ℕ) → length (binary k n) ≡ k
 length-binary zero n = refl
 length-binary (suc k) n = omega (arith, length-append (binary k (n / 2)) (nat_eq (n % 2) 1 ∷ []), length-binary k (n / 2))
 
