@@ -1,7 +1,6 @@
 -- The code of a number is the encoding of a constructor without fields.
-use Rattle.std.proofs.Common.{◌≡◌, ℕ, zero, suc, ◌+◌, ◌-◌, ◌%◌, ◌^◌, ◌<◌, ◌≤◌, max, List, [], ◌∷◌, ◌++◌, length, map, replicate, nat_eq, Bool, false, refl, ap, sym, ◌∙◌, arith, append-nil}
+use Rattle.std.proofs.Common.{◌≡◌, ℕ, zero, suc, ◌+◌, ◌-◌, ◌%◌, ◌^◌, ◌<◌, max, List, [], ◌∷◌, ◌++◌, length, map, nat_eq, refl, ap, sym, ◌∙◌, arith, append-nil}
 use Rattle.std.specs.Prelude.{sum_by, All}
-use Rattle.std.proofs.lemmas.List.{length-map}
 use Rattle.rw_core.specs.declared.types.DataTy.{DataTy}
 use Rattle.rw_core.specs.Values.{val, none}
 use Rattle.rw_core.specs.Bits.{constructors_of, width_of, width_within, tag_width, greatest, binary, padded, encoding}

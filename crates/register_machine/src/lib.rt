@@ -19,3 +19,6 @@ mod processes;
 pub use emit::design;
 pub use laws::{code_law, machine_law, register_law, static_law};
 pub use machine::{Machine, State};
+
+#[cfg(test)]
+mod tests;
