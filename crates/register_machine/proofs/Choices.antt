@@ -1,5 +1,5 @@
 -- A decision takes the statements of the number whose bits it tests.
-use Rattle.std.proofs.Common.{◌≡◌, ℕ, zero, suc, ◌+◌, ◌-◌, ◌/◌, ◌%◌, ◌^◌, nat_eq, ◌<◌, ◌≤◌, List, [], ◌∷◌, ◌++◌, length, map, refl, ap, sym, Bool, true, false, ◌∙◌, arith, length-append, append_assoc, ⊎_elim}
+use Rattle.std.proofs.Common.{◌≡◌, ℕ, zero, suc, ◌+◌, ◌-◌, ◌/◌, ◌%◌, ◌^◌, nat_eq, ◌<◌, ◌≤◌, List, [], ◌∷◌, ◌++◌, length, refl, ap, sym, Bool, true, false, ◌∙◌, arith, length-append, append_assoc, ⊎_elim}
 use Rattle.std.proofs.Math.Seq.{drop-append_seam}
 use Rattle.std.proofs.lemmas.Bool.{cases_lt}
 use Rattle.std.proofs.lemmas.List.{length-map}
@@ -23,7 +23,7 @@ one_bit front rest b k e =
     let one : k + 1 - k ≡ 1 = omega arith in
     rw (at, one, drop-append_seam) refl
 
-length-binary : (k n : ℕ) → length (binary k n) ≡ k
+pub length-binary : (k n : ℕ) → length (binary k n) ≡ k
 length-binary zero n = refl
 length-binary (suc k) n = omega (arith, length-append (binary k (n / 2)) (nat_eq (n % 2) 1 ∷ []), length-binary k (n / 2))
 

@@ -7,3 +7,4 @@ pub mod Choices
 pub mod Tables
 pub mod Keeping
 pub mod Static
+pub mod Encodings

@@ -1,12 +1,12 @@
 -- A design with one register shows the outputs of its two expressions.
-use Rattle.std.proofs.Common.{◌≡◌, ℕ, suc, zero, ◌+◌, ◌≤◌, List, [], ◌∷◌, refl, ap, sym, subst, Bool, true, false, ◌∙◌, Option, Some, None, Ok, arith, replicate, ◌⊎◌, inl, inr, ⊎_elim}
+use Rattle.std.proofs.Common.{◌≡◌, ℕ, ◌+◌, List, [], ◌∷◌, refl, ap, sym, subst, Bool, true, false, ◌∙◌, Option, Some, None, Ok, arith, replicate, inl, inr}
 use Rattle.std.specs.Prelude.{codes, ◌&&◌, ◌||◌, not, if◌then◌else◌, unwrap_or}
 use Rattle.std.specs.List.Sorted.{IsPermutation}
 use Rattle.vh_tree.specs.Bits.{Bytes, Bits, same_bits}
-use Rattle.vh_tree.specs.Functions.{World, Calls, Store, held, expr_of, stmts_of, scope_in, calls_of}
-use Rattle.vh_tree.specs.DeltaCycle.{Wires, Moment, moment_of, rises, put, runs, process_world, process_effect, all_effects, delta_cycle, IsOrder}
+use Rattle.vh_tree.specs.Functions.{Calls, Store, held, expr_of, stmts_of, scope_in, calls_of}
+use Rattle.vh_tree.specs.DeltaCycle.{Wires, Moment, moment_of, rises, put, process_world, process_effect, all_effects}
 use Rattle.vh_tree.specs.Bench.{signals_of, fresh, set_port, start_of, edge, given, outp_of, on_ok, read_first, readings_from, Schedule, IsSchedule, BenchInEveryOrder}
-use Rattle.vh_tree.specs.Equations.{expr_of-Name, expr_of-Literal, expr_of-Call, stmt_of-Assign, stmt_of-If, branch_of-Branch}
+use Rattle.vh_tree.specs.Equations.{expr_of-Literal, stmt_of-Assign, stmt_of-If, branch_of-Branch}
 use Rattle.rw_base.specs.declared.bit.Bit9.TheVariants.{U, Zero, One}
 use Rattle.vh_tree.specs.declared.process.Process.{Process}
 use Rattle.vh_tree.specs.declared.design.Design.{Design}

@@ -1,5 +1,5 @@
 -- Settling, delta cycle by delta cycle, whatever the orders of the processes.
-use Rattle.std.proofs.Common.{◌≡◌, ℕ, zero, suc, ◌+◌, ◌≤◌, List, [], ◌∷◌, refl, ap, ◌∙◌, Bool, true, false, Some, None, Ok, arith}
+use Rattle.std.proofs.Common.{◌≡◌, ℕ, zero, suc, ◌+◌, ◌≤◌, List, ap, ◌∙◌, Bool, true, false, Some, None, Ok, arith}
 use Rattle.std.specs.Prelude.{if◌then◌else◌}
 use Rattle.vh_tree.specs.DeltaCycle.{Orders, AreOrders, IsOrder, delta_cycle, is_quiet}
 use Rattle.vh_tree.specs.Bench.{settled, one_later, later, or_change, on_ok, edge, clocked, Schedule, IsSchedule}

@@ -1,23 +1,20 @@
 -- The design of a machine keeps the static rules.
-use Rattle.std.proofs.Common.{◌≡◌, ℕ, zero, suc, ◌+◌, ◌-◌, ◌^◌, ◌<◌, ◌≤◌, max, List, [], ◌∷◌, length, refl, ap, Bool, true, false, Option, Some, None, arith}
-use Rattle.std.specs.Prelude.{◌&&◌, ◌==◌, not, codes, nat_le, nat_lt, count_by, drop}
+use Rattle.std.proofs.Common.{◌≡◌, ℕ, ◌+◌, ◌-◌, ◌^◌, ◌<◌, ◌≤◌, List, [], ◌∷◌, length, refl, ap, Bool, true, false, Option, Some, None, arith}
+use Rattle.std.specs.Prelude.{◌&&◌, ◌==◌, not, codes, nat_le}
 use Rattle.std.specs.List.{list_all}
 use Rattle.std.proofs.lemmas.Bool.{lt-ltb, le-leb}
-use Rattle.std.proofs.Math.Nat.{pow-le-pow_right}
-use Rattle.vh_tree.specs.Bits.{Bytes, Bits, is_among}
+use Rattle.vh_tree.specs.Bits.{Bytes, is_among}
 use Rattle.vh_tree.specs.StaticRules as rules
 use Rattle.vh_tree.specs.StaticRules.{Names, Widths, Shape, IsStatic}
 use Rattle.vh_tree.specs.Equations as by
 use Rattle.rw_core.specs.Bits.{tag_width}
 use Rattle.rw_core.specs.TagWidths.{tag_width-least}
-use Rattle.rw_base.specs.declared.bit.Bit9.TheVariants.{Zero}
-use Rattle.vh_tree.specs.declared.expr.VExpr.{VExpr}
 use Rattle.vh_tree.specs.declared.expr.VExpr.TheVariants.{Name, Slice, Literal}
 use Rattle.vh_tree.specs.declared.design.Item.{Item}
 use Rattle.register_machine.specs.Codes.{code, code_width}
 use Rattle.register_machine.specs.Machine.{IsMachine}
 use Rattle.register_machine.specs.OneRegister.{clocked, showing}
-use Rattle.register_machine.specs.Design.{next_function, shown_function, next_call, shown_call, machine_items, register_of, machine_design}
+use Rattle.register_machine.specs.Design.{next_function, shown_function, next_call, shown_call, machine_items, machine_design}
 use Rattle.register_machine.specs.declared.machine.Machine.{Machine}
 use Rattle.register_machine.proofs.Choices.{length-number_bits}
 use Rattle.register_machine.proofs.Keeping.{and_both, next_decision_keeps, shown_decision_keeps, next_body_keeps, shown_body_keeps, clocked_keeps, showing_keeps}

@@ -1,6 +1,6 @@
 -- The two functions of a machine give the entries that their arguments name.
-use Rattle.std.proofs.Common.{◌≡◌, ℕ, zero, suc, ◌+◌, ◌^◌, ◌<◌, ◌≤◌, max, List, [], ◌∷◌, length, refl, ap, subst, map, ◌∙◌, replicate, arith, All}
-use Rattle.std.specs.Prelude.{codes, slice_index}
+use Rattle.std.proofs.Common.{◌≡◌, ℕ, zero, suc, ◌+◌, ◌^◌, ◌<◌, ◌≤◌, List, [], ◌∷◌, length, refl, ap, subst, map, ◌∙◌, replicate, arith, All}
+use Rattle.std.specs.Prelude.{codes}
 use Rattle.std.proofs.Math.Nat.{pow-le-pow_right}
 use Rattle.vh_tree.specs.Bits.{Bytes, Bits}
 use Rattle.vh_tree.specs.Functions.{Calls, Store, World, held, expr_of, stmt_of, stmts_of, scope_in, value_in, function_world, function_value, calls_of}
@@ -10,11 +10,10 @@ use Rattle.rw_core.specs.Bits.{tag_width}
 use Rattle.rw_core.specs.TagWidths.{tag_width-enough}
 use Rattle.rw_base.specs.declared.bit.Bit9.TheVariants.{U}
 use Rattle.vh_tree.specs.declared.stmt.VStmt.{VStmt}
-use Rattle.vh_tree.specs.declared.wire.Held.{Held}
-use Rattle.register_machine.specs.Codes.{code, code_width, number_bits}
+use Rattle.register_machine.specs.Codes.{code, code_width}
 use Rattle.register_machine.specs.Machine.{IsMachine, shown_in, next_of, outputs_from, machine_outputs}
 use Rattle.register_machine.specs.OneRegister.{Computes, register_outputs}
-use Rattle.register_machine.specs.Design.{copied, code_assigned, decide_code, input_decision, next_body, next_function, shown_body, shown_function, next_call, shown_call, machine_items, register_of, machine_design}
+use Rattle.register_machine.specs.Design.{copied, code_assigned, decide_code, input_decision, next_function, shown_function, next_call, shown_call, machine_items, register_of, machine_design}
 use Rattle.register_machine.specs.declared.machine.Machine.{Machine}
 use Rattle.register_machine.proofs.Choices.{decides}
 use Rattle.register_machine.proofs.Registers.{register_reads}

@@ -1,10 +1,13 @@
 -- Laws of machines and of designs with one register, each the contract of a public function.
-use Rattle.std.specs.Prelude.{◌≡◌, ℕ, ◌<◌, ◌≤◌, List, map, All}
+use Rattle.std.specs.Prelude.{◌≡◌, ℕ, ◌<◌, ◌≤◌, List, [], length, map, All}
+use Rattle.rw_core.specs.declared.types.DataTy.{DataTy}
+use Rattle.rw_core.specs.Values.{val, none}
+use Rattle.rw_core.specs.Bits.{constructors_of, width_of, encoding}
 use Rattle.vh_tree.specs.Bits.{Bits}
 use Rattle.vh_tree.specs.Bench.{BenchInEveryOrder}
 use Rattle.vh_tree.specs.StaticRules.{IsStatic}
 use Rattle.vh_tree.specs.declared.design.Design.{Design}
-use Rattle.register_machine.specs.Codes.{code, code_width}
+use Rattle.register_machine.specs.Codes.{wire_bit, code, code_width}
 use Rattle.register_machine.specs.Machine.{IsMachine, machine_outputs}
 use Rattle.register_machine.specs.OneRegister.{OneRegister, design_of, HasOneSignal, Computes, register_outputs}
 use Rattle.register_machine.specs.Design.{machine_design}
@@ -31,3 +34,10 @@ pub record FitsCodes (m : Machine) (d : Design) : Type 0 where
 
 abbrev pub StaticLaw : Type 0
 StaticLaw = (m : Machine) → IsMachine m → FitsCodes m (machine_design m)
+
+-- a data type of constructors without fields has the width of codes, and the encoding of a constructor is the code of
+-- its number
+abbrev pub CodeLaw : Type 0
+CodeLaw = (types : List DataTy) (ty : ℕ) → All (λ fields. fields ≡ []) (constructors_of types ty) →
+    (width_of types ty ≡ code_width (length (constructors_of types ty)))
+    × ((tag : ℕ) → tag < length (constructors_of types ty) → map wire_bit (encoding types ty (val tag none)) ≡ code (length (constructors_of types ty)) tag)

@@ -1,5 +1,5 @@
 -- Moore machines: when their tables are well formed, and what they show.
-use Rattle.std.specs.Prelude.{◌≡◌, ℕ, ◌<◌, ◌^◌, List, [], ◌∷◌, length, slice_index, slice_index_or, All}
+use Rattle.std.specs.Prelude.{◌≡◌, ℕ, ◌<◌, ◌^◌, List, [], ◌∷◌, length, slice_index, slice_index_or}
 use Rattle.register_machine.specs.declared.machine.Machine.{Machine}
 use Rattle.register_machine.specs.declared.machine.State.{State}
 

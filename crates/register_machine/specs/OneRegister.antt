@@ -2,7 +2,7 @@
 use Rattle.std.specs.Prelude.{◌≡◌, ℕ, List, [], ◌∷◌, Bool, codes, if◌then◌else◌}
 use Rattle.vh_tree.specs.Bits.{Bytes, Bits}
 use Rattle.vh_tree.specs.Functions.{Store, calls_of, expr_of, scope_in, value_in}
-use Rattle.vh_tree.specs.Bench.{signals_of, fresh, BenchInEveryOrder}
+use Rattle.vh_tree.specs.Bench.{signals_of, fresh}
 use Rattle.vh_tree.specs.declared.expr.VExpr.{VExpr}
 use Rattle.vh_tree.specs.declared.expr.VExpr.TheVariants.{Literal}
 use Rattle.vh_tree.specs.declared.stmt.Test.{Test}

@@ -1,5 +1,5 @@
 // What the designs show: functions without a body, whose contracts are the laws.
-ghost use Rattle.register_machine.specs.Laws.{RegisterLaw, MachineLaw, StaticLaw};
+ghost use Rattle.register_machine.specs.Laws.{RegisterLaw, MachineLaw, StaticLaw, CodeLaw};
 
 /// A design with one register settles within four delta cycles of each change and shows the outputs of its two
 /// expressions, edge by edge, for every list of inputs and every order of the processes (IEEE Std 1076-1993,
@@ -19,4 +19,10 @@ pub fn machine_law()
 /// profile), and its ports have the widths of the codes of inputs and outputs: at most 32 bits.
 pub fn static_law()
     ensures { StaticLaw }
+{}
+
+/// Where no constructor of a data type has fields, the code of a constructor's number is its encoding, and the type
+/// is as wide as the codes.
+pub fn code_law()
+    ensures { CodeLaw }
 {}

@@ -1,5 +1,5 @@
 -- The greater of one and the bits of a tag tells as many apart, and is at most 32.
-use Rattle.std.proofs.Common.{◌≡◌, ◌<◌, ◌≤◌, ◌^◌, ℕ, arith}
+use Rattle.std.proofs.Common.{◌≤◌, ◌^◌, arith}
 use Rattle.std.proofs.Math.Nat.{pow-le-pow_right}
 use Rattle.register_machine.proofs.codes.code_width.Goals as goal
 

@@ -1,8 +1,8 @@
 -- The decision on one bit more, from the decisions of its two halves.
-use Rattle.std.proofs.Common.{◌≡◌, ◌<◌, ◌≤◌, ◌^◌, ℕ, List, IfOk, ◌+◌, ◌-◌, ◌*◌, ◌%◌, arith, ap, sym, ◌∙◌, subst}
+use Rattle.std.proofs.Common.{◌≡◌, ◌<◌, ◌^◌, ℕ, List, IfOk, ◌+◌, ◌-◌, ◌*◌, ◌%◌, arith, ap, sym, ◌∙◌, subst}
 use Rattle.vh_tree.specs.declared.stmt.VStmt.{VStmt}
 use Rattle.register_machine.specs.Decision.{decide, either}
-use Rattle.register_machine.proofs.Numbers.{decide-both, decide-low, shift_is}
+use Rattle.register_machine.proofs.Numbers.{decide-both, shift_is}
 use Rattle.register_machine.proofs.decision.+decision.Goals as goal
 
 pub returns : goal.returns
