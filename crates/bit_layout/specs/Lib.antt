@@ -1,3 +1,4 @@
 -- What functions inside promise each other.
 pub mod Widths
 pub mod Parts
+pub mod Encoding
