@@ -7,3 +7,4 @@ pub mod Lengths
 pub mod Parts
 pub mod Unique
 pub mod Writes
+pub mod ReadSteps

@@ -1,6 +1,6 @@
 -- The width of a type comes from those of its fields.
-use Rattle.std.proofs.Common.{◌≡◌, ℕ, zero, suc, ◌+◌, ◌*◌, ◌<◌, ◌≤◌, min, max, List, [], ◌∷◌, ◌++◌, length, map, get_or, refl, subst, arith, ap, sym, ◌∙◌}
-use Rattle.std.specs.Prelude.{sum_by, slice_index, slice_index_or, All}
+use Rattle.std.proofs.Common.{◌≡◌, ℕ, zero, suc, ◌+◌, ◌<◌, ◌≤◌, max, List, [], ◌∷◌, ◌++◌, length, map, get_or, refl, subst, arith, ap}
+use Rattle.std.specs.Prelude.{sum_by, slice_index_or, All}
 use Rattle.std.proofs.lemmas.List.Elements.{All-cons, All-push}
 use Rattle.std.proofs.lemmas.List.Sums.{sum_by-cons}
 use Rattle.rw_core.specs.declared.types.DataTy.{DataTy}

@@ -1,13 +1,13 @@
 -- What one step of writing a value keeps, and that the steps come to an end.
-use Rattle.std.proofs.Common.{◌≡◌, ℕ, zero, suc, ◌+◌, ◌-◌, ◌*◌, ◌<◌, ◌≤◌, ◌^◌, min, List, [], ◌∷◌, ◌++◌, length, Bool, refl, arith, ap, sym, ◌∙◌, append_assoc, length-append, get_or, ◌⊎◌, inl, inr}
-use Rattle.std.specs.Prelude.{sum_by, All, slice_index}
+use Rattle.std.proofs.Common.{◌≡◌, ℕ, ◌+◌, ◌-◌, ◌*◌, ◌<◌, ◌≤◌, List, [], ◌∷◌, ◌++◌, length, Bool, refl, arith, ap, sym, ◌∙◌, append_assoc, ◌⊎◌, inl, inr}
+use Rattle.std.specs.Prelude.{sum_by, All}
 use Rattle.std.proofs.Math.Nat.{mul-le-mul_left}
 use Rattle.std.proofs.lemmas.List.{append-nil}
 use Rattle.std.proofs.lemmas.List.Sums.{sum_by-cons, sum_by-append}
 use Rattle.rw_core.specs.declared.types.DataTy.{DataTy}
-use Rattle.rw_core.specs.declared.value.Value.{Value, out-Value}
-use Rattle.rw_core.specs.Values.{Val, Vals, val, none, more, vals, plain, plains}
-use Rattle.rw_core.specs.Bits.{constructors_of, fields_of, IsTable, IsValue, AreValues, tag_width, width_of, binary, padded, encoding, encodings}
+use Rattle.rw_core.specs.declared.value.Value.{Value}
+use Rattle.rw_core.specs.Values.{Vals, val, none, more, vals, plain, plains}
+use Rattle.rw_core.specs.Bits.{fields_of, IsTable, AreValues, width_of, binary, padded, encoding, encodings}
 use Rattle.bit_layout.specs.declared.encoding.Writing.{Writing}
 use Rattle.bit_layout.specs.Widths.{AreShort, cost, cost_open}
 use Rattle.bit_layout.specs.Encoding.{closed, all_closed, IsWriting, cost_all}

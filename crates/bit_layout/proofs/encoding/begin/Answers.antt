@@ -1,12 +1,10 @@
 -- The tag is that of the value's type and constructor, and the fields are its fields.
-use Rattle.std.proofs.Common.{◌≡◌, ℕ, ◌+◌, ◌<◌, ◌≤◌, ◌^◌, ◌++◌, min, length, ap, sym, ◌∙◌, arith}
-use Rattle.std.specs.Prelude.{sum_by, slice_index, All}
+use Rattle.std.proofs.Common.{◌≡◌, ◌+◌, ◌++◌, length, ap, sym, ◌∙◌, arith}
+use Rattle.std.specs.Prelude.{slice_index}
 use Rattle.rw_core.specs.declared.value.Value.{out-Value}
-use Rattle.rw_core.specs.Values.{plain, plains, vals, val}
-use Rattle.rw_core.specs.Bits.{IsValue, AreValues, constructors_of, fields_of, tag_width, width_of, binary, encoding, encodings, padded}
-use Rattle.bit_layout.specs.Widths.{AreShort}
+use Rattle.rw_core.specs.Values.{plains, vals}
+use Rattle.rw_core.specs.Bits.{constructors_of, fields_of, tag_width, width_of, binary, encoding, encodings, padded}
 use Rattle.bit_layout.proofs.Plains.{plain_value}
-use Rattle.bit_layout.proofs.Shapes.{All-below, fields_fit}
 use Rattle.bit_layout.proofs.Writes.{value_closed, begun_typed, begun_short}
 use Rattle.bit_layout.proofs.encoding.begin.Goals as goal
 

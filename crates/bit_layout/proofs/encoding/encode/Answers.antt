@@ -1,7 +1,5 @@
 -- Each step keeps what the stack will have written.
-use Rattle.std.proofs.Common.{◌≡◌, ℕ, ◌+◌, ◌<◌, ◌≤◌, List, [], ◌∷◌, ◌++◌, length, ap, sym, ◌∙◌, arith, inl, inr}
-use Rattle.std.specs.Prelude.{All}
-use Rattle.rw_core.specs.Values.{plains, vals}
+use Rattle.std.proofs.Common.{◌≡◌, ◌+◌, [], ◌∷◌, ◌++◌, length, ap, ◌∙◌}
 use Rattle.rw_core.specs.Bits.{IsTable}
 use Rattle.bit_layout.specs.Encoding.{IsWriting}
 use Rattle.bit_layout.proofs.Shapes.{all_front, all_last, all_more}

@@ -1,8 +1,7 @@
-use Rattle.std.proofs.Common.{◌≡◌, ◌+◌, ◌<◌, ◌≤◌, length}
+use Rattle.std.proofs.Common.{◌≡◌, ◌+◌}
 use Rattle.std.specs.Prelude.{All}
 use Rattle.rw_core.specs.Values.{plain}
-use Rattle.rw_core.specs.Bits.{IsTable, encoding}
-use Rattle.bit_layout.specs.Widths.{AreWidths}
+use Rattle.rw_core.specs.Bits.{encoding}
 use Rattle.bit_layout.specs.Encoding.{IsWriting, all_closed, cost_all}
 use Rattle.bit_layout.proofs.encoding.encode.Given as goal
 
