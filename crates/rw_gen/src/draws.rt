@@ -5,6 +5,13 @@ ghost use Rattle.rw_gen.specs.Workload.{generator_at, draw};
 use rand_core::utils::NextWord;
 use rand_pcg::Pcg32;
 
+/// The generator of the workload for this number.
+pub(crate) fn generator(number: u64) -> Pcg32
+    ensures { result ≡ generator_at number 0 }
+{
+    Pcg32::new(number, 0)
+}
+
 /// The next word of the generator, modulo `below`.
 pub(crate) fn draw_below(rng: &mut Pcg32, below: u32) -> u32
     requires { 0 < below }

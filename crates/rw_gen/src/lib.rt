@@ -10,3 +10,6 @@ mod lines;
 mod workload;
 
 pub use workload::{inputs, source};
+
+#[cfg(test)]
+mod tests;

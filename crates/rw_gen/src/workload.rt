@@ -2,9 +2,8 @@
 ghost use Rattle.std.specs.Prelude.{◌≡◌, ◌≤◌, IfOk};
 ghost use Rattle.rw_gen.specs.Workload.{source_text, input_list};
 
-use crate::draws::draw_below;
+use crate::draws::{draw_below, generator};
 use crate::lines::{push_device, push_signature, push_states};
-use rand_pcg::Pcg32;
 use rw_base::OutOfMemory;
 use std::alloc::Global;
 
@@ -21,7 +20,7 @@ pub fn source(alloc: Global, number: u64, size: u32) -> Result<Vec<u8>, OutOfMem
     let mut text = Vec::new(alloc);
     push_states(&mut text, size)?;
     text.extend_from_slice(b"start :: ReT Bool S I ()\nstart = d0\n")?;
-    let mut rng = Pcg32::new(number, 0);
+    let mut rng = generator(number);
     for device in 0..size {
         let on_false = draw_below(&mut rng, size);
         let on_true = draw_below(&mut rng, size);
@@ -38,7 +37,7 @@ pub fn inputs(alloc: Global, number: u64, size: u32) -> Result<Vec<bool>, OutOfM
     requires few { size ≤ 1024 }
     ensures { IfOk result (λ inputs. inputs.items ≡ input_list number size) }
 {
-    let mut rng = Pcg32::new(number, 0);
+    let mut rng = generator(number);
     rng.advance(2 * u64::from(size));
     let mut inputs = Vec::new(alloc);
     for _ in 0..INPUTS {

@@ -1,17 +1,17 @@
 -- The jump stands where the draws of the source end, and each draw is one input.
 use Rattle.std.proofs.Common.{◌≡◌, ◌+◌, ◌*◌, ◌==◌, [], ◌∷◌, ◌++◌, ap, sym, ◌∙◌, arith}
-use Rattle.rand_pcg.specs.Lcg.{advance}
+use Rattle.rand_pcg.specs.Lcg.{state_after, advance}
 use Rattle.rand_pcg.specs.Pcg.{multiplier_64}
 use Rattle.rw_gen.specs.Workload.{generator_at, draw, inputs_below, input_list}
 use Rattle.rw_gen.proofs.Steps.{inputs_below-more, inputs_below-none}
 use Rattle.rw_gen.proofs.workload.inputs.Goals as goal
 
 pub loop-init : goal.loop-init
-unfolding generator_at
+unfolding generator_at state_after
 loop-init c =
     let n : 2 * c.from.result ≡ 2 * c.args.size + 0 = omega arith in
     record {
-      at = c.advance.ensures ∙ ap (λ n. advance 64 multiplier_64 n c.new-rng.result) n ∙ ap (advance 64 multiplier_64 (2 * c.args.size + 0)) c.new-rng.ensures;
+      at = c.advance.ensures ∙ ap (λ n. advance 64 multiplier_64 n c.generator-rng.result) n ∙ ap (advance 64 multiplier_64 (2 * c.args.size + 0)) c.generator-rng.ensures;
       so_far = c.new-inputs.ensures.items ∙ sym (inputs_below-none c.args.number c.args.size);
     }
 

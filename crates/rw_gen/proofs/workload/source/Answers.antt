@@ -1,18 +1,16 @@
 -- The head of the source, and then one device after the other, each with the next two draws.
 use Rattle.std.proofs.Common.{◌≡◌, ◌+◌, ◌*◌, ◌++◌, codes, ap, sym, ◌∙◌, arith, append_assoc, add-one}
 use Rattle.std.proofs.lemmas.List.{append-nil}
-use Rattle.rand_pcg.specs.Lcg.{state_after}
 use Rattle.rw_gen.specs.Workload.{generator_at, draw, line, data_line, signature_line, device_line, devices_below}
 use Rattle.rw_gen.proofs.Steps.{pushed_more}
 use Rattle.rw_gen.proofs.workload.source.Goals as goal
 
 pub loop-device-init : goal.loop-device-init
-unfolding generator_at state_after
 loop-device-init c =
     let one = line (codes "start :: ReT Bool S I ()") in
     let two = line (codes "start = d0") in
     record {
-      at = c.new-rng.ensures;
+      at = c.generator-rng.ensures;
       so_far = c.in_ok-extend_from_slice.ensures.items ∙ ap (λ t. t ++ (one ++ two)) (c.in_ok-push_states.ensures ∙ ap (λ t. t ++ data_line c.args.size) c.new-text.ensures.items)
           ∙ sym (append_assoc (data_line c.args.size) one two) ∙ sym (append-nil (data_line c.args.size ++ one ++ two));
     }
