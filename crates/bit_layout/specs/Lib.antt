@@ -3,3 +3,4 @@ pub mod Widths
 pub mod Parts
 pub mod Encoding
 pub mod Decoding
+pub mod Tables
