@@ -1,10 +1,10 @@
 -- Every encoding has the width of its type.
-use Rattle.std.proofs.Common.{◌≡◌, ℕ, zero, suc, ◌+◌, ◌-◌, ◌<◌, ◌≤◌, List, [], ◌∷◌, ◌++◌, length, refl, arith, ap, sym, ◌∙◌, length-append}
+use Rattle.std.proofs.Common.{◌≡◌, ℕ, List, [], ◌∷◌, ◌++◌, length, refl, arith, length-append}
 use Rattle.std.specs.Prelude.{sum_by}
 use Rattle.std.proofs.lemmas.List.Sums.{sum_by-cons}
 use Rattle.rw_core.specs.declared.types.DataTy.{DataTy}
 use Rattle.rw_core.specs.Values.{Val, Vals, val, none, more}
-use Rattle.rw_core.specs.Bits.{constructors_of, fields_of, IsTable, IsValue, AreValues, tag_width, width_of, binary, padded, encoding, encodings}
+use Rattle.rw_core.specs.Bits.{constructors_of, fields_of, IsTable, IsValue, AreValues, tag_width, width_of, binary, encoding, encodings}
 use Rattle.bit_layout.proofs.Shapes.{fields_fit}
 use Rattle.bit_layout.proofs.Pieces.{length-binary, length-padded}
 

@@ -1,7 +1,10 @@
 pub mod Tags
 pub mod Shapes
+pub mod Plains
 pub mod Capped
 pub mod Pieces
 pub mod Lengths
 pub mod Parts
 pub mod Unique
+pub mod Writes
+pub mod ReadSteps

@@ -1,15 +1,13 @@
 -- The bits of a value are its tag and what the fields fill, and the bits of fields come off one by one.
-use Rattle.std.proofs.Common.{◌≡◌, ℕ, zero, suc, ◌+◌, ◌-◌, ◌<◌, ◌≤◌, ◌^◌, List, [], ◌∷◌, ◌++◌, length, take, drop, Bool, true, false, refl, arith, ap, sym, ◌∙◌, length-append, length-drop}
-use Rattle.std.specs.Prelude.{sum_by, replicate}
+use Rattle.std.proofs.Common.{◌≡◌, ℕ, ◌-◌, ◌<◌, ◌^◌, List, ◌∷◌, ◌++◌, length, take, drop, Bool, arith, ap, sym, ◌∙◌, length-drop}
 use Rattle.std.proofs.lemmas.List.{take-append-drop, length-take-le}
-use Rattle.std.proofs.lemmas.List.Sums.{sum_by-cons}
 use Rattle.rw_core.specs.declared.types.DataTy.{DataTy}
-use Rattle.rw_core.specs.Values.{Val, Vals, val, none, more}
-use Rattle.rw_core.specs.Bits.{constructors_of, fields_of, IsTable, IsValue, AreValues, Encodes, tag_width, width_of, binary, padded, encoding, encodings}
+use Rattle.rw_core.specs.Values.{Val, Vals, val, more}
+use Rattle.rw_core.specs.Bits.{constructors_of, fields_of, IsTable, Encodes, tag_width, width_of, binary, padded, encoding, encodings}
 use Rattle.bit_layout.specs.Parts.{number_of, Fill}
 use Rattle.bit_layout.proofs.Tags.{tag_width-enough}
 use Rattle.bit_layout.proofs.Shapes.{fields_fit}
-use Rattle.bit_layout.proofs.Pieces.{take_front, drop_front, length-binary, number_of-binary, binary-number_of, padded-append, length-padded, length-le-padded}
+use Rattle.bit_layout.proofs.Pieces.{take_front, drop_front, length-binary, number_of-binary, binary-number_of, padded-append, length-padded}
 use Rattle.bit_layout.proofs.Lengths.{length-encoding, length-encodings}
 
 -- the bits of the tag of type number ty

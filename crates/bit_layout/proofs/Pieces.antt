@@ -1,7 +1,8 @@
 -- Lists in two pieces, numbers in binary, and zeros on the right.
-use Rattle.std.proofs.Common.{◌≡◌, ℕ, zero, suc, ◌+◌, ◌-◌, ◌*◌, ◌/◌, ◌%◌, ◌^◌, ◌<◌, ◌≤◌, Bool, true, false, cond, nat_eq, List, [], ◌∷◌, ◌++◌, length, take, drop, refl, arith, add-one, ap, sym, ◌∙◌, append_assoc, length-append}
+use Rattle.std.proofs.Common.{◌≡◌, ℕ, zero, suc, ◌+◌, ◌-◌, ◌*◌, ◌/◌, ◌%◌, ◌^◌, ◌<◌, ◌≤◌, Bool, true, false, cond, nat_eq, List, [], ◌∷◌, ◌++◌, length, take, drop, refl, arith, ap, sym, ◌∙◌, append_assoc, length-append}
 use Rattle.std.specs.Prelude.{fold, replicate}
-use Rattle.std.proofs.lemmas.List.{length-replicate, append-nil}
+use Rattle.std.proofs.lemmas.List.{length-replicate, append-nil, replicate-append-replicate}
+use Rattle.std.proofs.Math.Pow.{shr-shr}
 use Rattle.std.proofs.lemmas.List.Sums.{fold-append}
 use Rattle.std.proofs.lemmas.Bool.Decides.{nat_tests}
 use Rattle.rw_core.specs.Bits.{binary, padded}
@@ -85,3 +86,26 @@ length-padded width bits h =
 
 pub length-le-padded : (width : ℕ) (bits : List Bool) → length bits ≤ length (padded width bits)
 length-le-padded width bits = omega (arith, length-append bits (replicate (width - length bits) false))
+
+-- one more bit of a tag
+pub binary-more : (t n q : ℕ) → binary (suc t) (n / 2 ^ q) ≡ binary t (n / 2 ^ (q + 1)) ++ nat_eq (n / 2 ^ q % 2) 1 ∷ []
+binary-more t n q = ap (λ m. binary t m ++ nat_eq (n / 2 ^ q % 2) 1 ∷ []) (shr-shr n q 1)
+
+-- one more zero
+pub replicate-more : (n : ℕ) → replicate (n + 1) false ≡ replicate n false ++ false ∷ []
+replicate-more n = sym (replicate-append-replicate n 1 false)
+
+-- a bit that is pushed is the next lower one of the tag
+pub tag_pushed : (old bits new : List Bool) (width place q tag n : ℕ) → place ≡ q + 1 → place ≤ width → n ≡ tag → bits ≡ old ++ binary (width - place) (tag / 2 ^ place) →
+    new ≡ bits ++ nat_eq (n / 2 ^ q % 2) 1 ∷ [] → new ≡ old ++ binary (width - q) (tag / 2 ^ q)
+tag_pushed old bits new width place q tag n ep low en eb e =
+    let w : width - q ≡ suc (width - place) = omega arith in
+    rw w (e ∙ ap (λ front. front ++ nat_eq (n / 2 ^ q % 2) 1 ∷ []) eb ∙ append_assoc old (binary (width - place) (tag / 2 ^ place)) (nat_eq (n / 2 ^ q % 2) 1 ∷ [])
+    ∙ ap (λ p. old ++ (binary (width - place) (tag / 2 ^ p) ++ nat_eq (n / 2 ^ q % 2) 1 ∷ [])) ep
+    ∙ ap (λ m. old ++ (binary (width - place) (tag / 2 ^ (q + 1)) ++ nat_eq (m / 2 ^ q % 2) 1 ∷ [])) en
+    ∙ ap (λ back. old ++ back) (sym (binary-more (width - place) tag q)))
+
+-- a zero that is pushed
+pub zero_pushed : (old bits new : List Bool) (n m : ℕ) → m ≡ n + 1 → bits ≡ old ++ replicate n false → new ≡ bits ++ false ∷ [] → new ≡ old ++ replicate m false
+zero_pushed old bits new n m em eb e =
+    rw em (e ∙ ap (λ front. front ++ false ∷ []) eb ∙ append_assoc old (replicate n false) (false ∷ []) ∙ ap (λ back. old ++ back) (sym (replicate-more n)))

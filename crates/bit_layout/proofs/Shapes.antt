@@ -1,6 +1,7 @@
 -- The width of a type comes from those of its fields.
-use Rattle.std.proofs.Common.{◌≡◌, ℕ, zero, suc, ◌+◌, ◌*◌, ◌<◌, ◌≤◌, min, max, List, [], ◌∷◌, length, map, get_or, refl, arith, ap, sym, ◌∙◌}
-use Rattle.std.specs.Prelude.{sum_by, slice_index, slice_index_or, All}
+use Rattle.std.proofs.Common.{◌≡◌, ℕ, zero, suc, ◌+◌, ◌<◌, ◌≤◌, max, List, [], ◌∷◌, ◌++◌, length, map, get_or, refl, subst, arith, ap}
+use Rattle.std.specs.Prelude.{sum_by, slice_index_or, All}
+use Rattle.std.proofs.lemmas.List.Elements.{All-cons, All-push}
 use Rattle.std.proofs.lemmas.List.Sums.{sum_by-cons}
 use Rattle.rw_core.specs.declared.types.DataTy.{DataTy}
 use Rattle.rw_core.specs.Bits.{constructors_of, fields_of, IsTable, tag_width, greatest, shape_width, width_within, width_of}
@@ -58,3 +59,15 @@ fields_fit types table ty tag =
 
 pub width_of-positive : (types : List DataTy) → IsTable types → (ty : ℕ) → 1 ≤ width_of types ty
 width_of-positive types table ty = let e = width_of-step types table ty in omega arith
+
+-- of a list with one more element at its end: the front, the last, and the whole
+pub all_front : {X : Type 0} (P : X → Type 0) (all xs : List X) (x : X) → all ≡ xs ++ x ∷ [] → All P all → All P xs
+all_front P all [] x e h = λ k d low. absurd (omega arith)
+all_front P all (y ∷ xs) x e h = let r : All P (y ∷ (xs ++ x ∷ [])) = subst (All P) e h in All-cons P y xs (all_head P y (xs ++ x ∷ []) r) (all_front P (xs ++ x ∷ []) xs x refl (all_tail P y (xs ++ x ∷ []) r))
+
+pub all_last : {X : Type 0} (P : X → Type 0) (all xs : List X) (x : X) → all ≡ xs ++ x ∷ [] → All P all → P x
+all_last P all [] x e h = let r : All P (x ∷ []) = subst (All P) e h in all_head P x [] r
+all_last P all (y ∷ xs) x e h = let r : All P (y ∷ (xs ++ x ∷ [])) = subst (All P) e h in all_last P (xs ++ x ∷ []) xs x refl (all_tail P y (xs ++ x ∷ []) r)
+
+pub all_more : {X : Type 0} (P : X → Type 0) (all xs : List X) (x : X) → all ≡ xs ++ x ∷ [] → All P xs → P x → All P all
+all_more P all xs x e h g = rw e (All-push P xs x h g)

@@ -1,8 +1,8 @@
 -- Two values of a type with one encoding are equal.
-use Rattle.std.proofs.Common.{◌≡◌, ℕ, zero, suc, ◌+◌, ◌-◌, ◌<◌, ◌≤◌, List, [], ◌∷◌, ◌++◌, length, refl, arith, ap, sym, ◌∙◌}
+use Rattle.std.proofs.Common.{◌≡◌, ℕ, ◌<◌, List, [], ◌∷◌, length, refl, ap, sym, ◌∙◌}
 use Rattle.rw_core.specs.declared.types.DataTy.{DataTy}
 use Rattle.rw_core.specs.Values.{Val, Vals, val, none, more}
-use Rattle.rw_core.specs.Bits.{constructors_of, fields_of, IsTable, IsValue, AreValues, width_of, binary, padded, encoding, encodings}
+use Rattle.rw_core.specs.Bits.{constructors_of, fields_of, IsTable, IsValue, AreValues, binary, encoding, encodings}
 use Rattle.bit_layout.specs.Parts.{number_of}
 use Rattle.bit_layout.proofs.Pieces.{fronts_same, backs_same, length-binary, number_of-binary}
 use Rattle.bit_layout.proofs.Lengths.{length-encoding, length-encodings}

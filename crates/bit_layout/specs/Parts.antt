@@ -1,7 +1,7 @@
 -- The bits of a tag as a number, and the bits of the fields that are still to come.
 use Rattle.std.specs.Prelude.{◌≡◌, ℕ, ◌+◌, ◌*◌, Bool, cond, List, [], ◌∷◌, length, fold}
 use Rattle.rw_core.specs.declared.types.DataTy.{DataTy}
-use Rattle.rw_core.specs.Values.{Val, Vals, none, more}
+use Rattle.rw_core.specs.Values.{Val, Vals, more}
 use Rattle.rw_core.specs.Bits.{AreValues, encodings, padded}
 
 -- a number with one more bit on the right

@@ -5,9 +5,18 @@
 //! Begin with `widths.rt`, then `encoding.rt` and `decoding.rt`; `laws.rt` says what holds of all encodings.
 #![tactic(auto)]
 
+mod decoding;
+mod encoding;
 mod laws;
 mod shape;
+mod table;
 mod widths;
 
+pub use decoding::decode;
+pub use encoding::encode;
 pub use laws::{encoding_has_width, encoding_tells_value, width_is_of_fields};
+pub use table::is_table;
 pub use widths::{tag_bits, width};
+
+#[cfg(test)]
+mod tests;

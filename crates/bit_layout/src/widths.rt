@@ -9,7 +9,7 @@ use rw_core::{DataTy, TyTable};
 use std::alloc::Global;
 
 /// What the width of a type that is wider than 1,024 bits is said to be.
-const TOO_WIDE: u64 = 1025;
+pub(crate) const TOO_WIDE: u64 = 1025;
 
 /// How many bits tell `n` constructors apart: the least number whose power of two is at least `n`.
 pub fn tag_bits(n: u32) -> u32

@@ -1,13 +1,15 @@
-// A library with one function.
+//! The stated workload: sources of devices that walk among named states, and the inputs that they are run on.
+//!
+//! It leaves judging and running the sources to others, and the random words to `rand_pcg`, whose generator it names.
+//! The `stress` command and every measurement use these sources and inputs.
+//! Begin with `specs/Workload.antt`, which says what is drawn and what is written.
 #![tactic(auto)]
 
-ghost use Rattle.std.specs.Prelude.{◌≡◌};
-ghost use Rattle.rw_gen.specs.Echo.{echo_of};
+mod draws;
+mod lines;
+mod workload;
 
-// The `ensures` clause is the contract: what `echo` returns is `echo_of` of its argument, a definition
-// in `specs/Echo.antt`, which a caller's clause can cite too.
-pub fn echo(x: usize) -> usize
-    ensures { result ≡ echo_of x }
-{
-    x
-}
+pub use workload::{inputs, source};
+
+#[cfg(test)]
+mod tests;

@@ -1,6 +1,5 @@
 -- The logarithm of one less gives the least width.
-use Rattle.std.proofs.Common.{◌≡◌, ℕ, ◌+◌, ◌-◌, ◌*◌, ◌<◌, ◌≤◌, ◌^◌, arith, refl, sym, ap, ◌∙◌}
-use Rattle.rw_core.specs.Bits.{tag_width}
+use Rattle.std.proofs.Common.{◌+◌, ◌<◌, ◌≤◌, ◌^◌, arith, sym}
 use Rattle.bit_layout.proofs.Tags.{tag_width-is, power_least, power_more}
 use Rattle.bit_layout.proofs.widths.tag_bits.Goals as goal
 

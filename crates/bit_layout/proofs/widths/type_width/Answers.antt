@@ -1,8 +1,8 @@
 -- The fields of the constructor at hand are those of the table, so their sum at the limit is that of the widths.
-use Rattle.std.proofs.Common.{◌≡◌, ℕ, ◌+◌, ◌<◌, min, max, length, map, take, add-one, refl, arith, ap, sym, ◌∙◌}
+use Rattle.std.proofs.Common.{◌≡◌, ◌<◌, length, map, take, add-one, arith, ap, ◌∙◌}
 use Rattle.std.specs.Prelude.{sum_by, slice_index, All}
 use Rattle.std.proofs.Math.Seq.{take-length}
-use Rattle.rw_core.specs.Bits.{constructors_of, fields_of, tag_width, greatest, width_of}
+use Rattle.rw_core.specs.Bits.{constructors_of, tag_width, greatest, width_of}
 use Rattle.bit_layout.proofs.Shapes.{width_of-step}
 use Rattle.bit_layout.proofs.Capped.{fields_are, sum_by-capped, greatest_more}
 use Rattle.bit_layout.proofs.widths.type_width.Goals as goal
