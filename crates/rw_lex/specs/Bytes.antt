@@ -23,31 +23,35 @@ class_of b =
     else (if is_between 65 90 b then class.Capital
     else (if is_between 48 57 b then class.Digit else (if is_among (codes "!#$%&*+./<=>?@\\^|-~:") b then class.Symbol else (if is_among (codes "(),;`{}") b then class.Special else class.Other)))))
 
--- letters and the underscore; capital letters; letters, underscore and digits; digits; symbols
+-- letters and the underscore begin words
 abbrev pub is_letter_class : Class → Bool
 is_letter_class class.Small = true
 is_letter_class class.Capital = true
 is_letter_class _ = false
 
+-- capital letters begin constructors
 abbrev pub is_capital_class : Class → Bool
 is_capital_class class.Capital = true
 is_capital_class _ = false
 
+-- letters, the underscore and digits go on with a word
 abbrev pub is_word_class : Class → Bool
 is_word_class class.Small = true
 is_word_class class.Capital = true
 is_word_class class.Digit = true
 is_word_class _ = false
 
+-- digits make numbers
 abbrev pub is_digit_class : Class → Bool
 is_digit_class class.Digit = true
 is_digit_class _ = false
 
+-- symbols make operators
 abbrev pub is_symbol_class : Class → Bool
 is_symbol_class class.Symbol = true
 is_symbol_class _ = false
 
--- what a run is of: a word's letters, digits, underscores and apostrophes; digits; operator symbols; all but LF
+-- what a run is of: a word's letters, digits, underscores and apostrophes (39); digits; operator symbols; all but LF (10)
 abbrev pub is_in : Run → ℕ → Bool
 is_in run.Word b = is_word_class (class_of b) || nat_eq b 39
 is_in run.Digits b = is_digit_class (class_of b)

@@ -35,11 +35,12 @@ abbrev pub begins_comment : List ℕ → Bool
 begins_comment (a ∷ b ∷ bs) = opens a b
 begins_comment bs = false
 
--- a block comment, whose inside is so long
+-- the piece of a block comment, whose inside is so long, or never closes it
 abbrev pub commented : Option ℕ → Piece
 commented None = p.Unclosed
 commented (Some n) = p.Gap (n + 2)
 
+-- the piece that begins with a bracket, comma, semicolon or backquote
 unfoldable pub special_at : List ℕ → Piece
 special_at bytes = if begins_comment bytes then commented (closing_len 1 0 (drop 2 bytes)) else p.Token kind.Special 1
 
@@ -77,15 +78,17 @@ len_of p.Nothing = 0
 abbrev pub place_from : Place → List ℕ → Place
 place_from at bytes = record { line = fold next_line at.line bytes; column = fold next_column at.column bytes }
 
--- what a piece gives: its token, the line of the last token, and the rule that it breaks
+-- the token of a piece, if it is one
 abbrev pub tokens_of : Piece → List ℕ → Place → ℕ → List Token
 tokens_of (p.Token kind n) piece at line = token_of kind piece at line ∷ []
 tokens_of _ piece at line = []
 
+-- the line of the last token, the piece's own if it is one
 abbrev pub last_line : Piece → Place → ℕ → ℕ
 last_line (p.Token kind n) at line = at.line
 last_line _ at line = line
 
+-- the rule that a piece breaks, if it breaks one
 abbrev pub refusal_of : Piece → Place → Option Refusal
 refusal_of p.Unclosed at = Some (record { rule = E03; place = at })
 refusal_of p.Nothing at = Some (record { rule = E02; place = at })
@@ -110,6 +113,7 @@ tokens_within (suc n) at line (b ∷ bs) =
     let text = take (len_of piece) (b ∷ bs) in
     unless (refusal_of piece at) (in_front (tokens_of piece text at line) (tokens_within n (place_from at text) (last_line piece at line) (drop (len_of piece) (b ∷ bs))))
 
+-- the tokens from a place on, or the rule that is broken first
 unfoldable pub tokens_from : Place → ℕ → List ℕ → Result (List Token) Refusal
 tokens_from at line bytes = tokens_within (length bytes) at line bytes
 

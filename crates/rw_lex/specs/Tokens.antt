@@ -17,10 +17,11 @@ use Rattle.rw_lex.specs.declared.token.TokenKind.TheVariants as kind
 use Rattle.rw_lex.specs.declared.token.Token.{Token}
 use Rattle.rw_lex.specs.Bytes.{class_of, is_letter_class, is_capital_class, is_run, stops}
 
--- two bytes that open a block comment, and two that close one
+-- two bytes that open a block comment: `{` (123) and `-` (45)
 abbrev pub opens : ℕ → ℕ → Bool
 opens a b = nat_eq a 123 && nat_eq b 45
 
+-- two bytes that close one: `-` (45) and `}` (125)
 abbrev pub closes : ℕ → ℕ → Bool
 closes a b = nat_eq a 45 && nat_eq b 125
 
@@ -36,21 +37,24 @@ pub data Closes : ℕ → List ℕ → Type 0 where
   one_more : (n : ℕ) (bs : List ℕ) → Closes (suc n) bs → Closes n (123 ∷ 45 ∷ bs)
   another : (n b : ℕ) (bs : List ℕ) → begins_mark (b ∷ bs) ≡ false → Closes n bs → Closes n (b ∷ bs)
 
--- two dashes or more
+-- two dashes (45) or more, and nothing else
 abbrev pub is_dashes : List ℕ → Bool
 is_dashes piece = list_all (nat_eq 45) piece && nat_le 2 (length piece)
 
--- the reserved words: those that begin declarations, and the others
+-- the reserved words that begin declarations
 abbrev pub declaration_words : List (List ℕ)
 declaration_words = codes "class" ∷ codes "data" ∷ codes "default" ∷ codes "foreign" ∷ codes "import" ∷ codes "infix" ∷ codes "infixl" ∷ codes "infixr" ∷ codes "instance" ∷ codes "newtype" ∷ codes "type" ∷ []
 
+-- the other reserved words
 abbrev pub inner_words : List (List ℕ)
 inner_words = codes "_" ∷ codes "case" ∷ codes "deriving" ∷ codes "do" ∷ codes "else" ∷ codes "if" ∷ codes "in" ∷ codes "let" ∷ codes "module" ∷ codes "of" ∷ codes "then" ∷ codes "where" ∷ []
 
+-- a word is one of these
 abbrev pub is_word_of : List (List ℕ) → List ℕ → Bool
 is_word_of [] piece = false
 is_word_of (word ∷ words) piece = bytes_eq piece word || is_word_of words piece
 
+-- a word is reserved
 abbrev pub is_keyword : List ℕ → Bool
 is_keyword piece = is_word_of declaration_words piece || is_word_of inner_words piece
 
@@ -59,6 +63,7 @@ abbrev pub begins_word : List ℕ → Bool
 begins_word [] = false
 begins_word (b ∷ bs) = is_letter_class (class_of b)
 
+-- a constructor begins with a capital letter
 abbrev pub begins_capital : List ℕ → Bool
 begins_capital [] = false
 begins_capital (b ∷ bs) = is_capital_class (class_of b)
@@ -77,7 +82,8 @@ pub data Sort : Type 0 where
   token : TokenKind → Sort
   unclosed : Sort
 
--- these bytes are a piece: dashes alone are a line comment and no operator
+-- these bytes are a piece of this sort: a line comment is dashes and then nothing, or no operator character and what
+-- else the line has; so dashes alone are a comment and no operator
 pub data IsPiece : Sort → List ℕ → Type 0 where
   white : (b : ℕ) → class_of b ≡ class.White → IsPiece gap (b ∷ [])
   line_comment : (dashes line : List ℕ) → is_dashes dashes ≡ true → stops run.Symbols line ≡ true → is_run run.Line line ≡ true → IsPiece gap (dashes ++ line)
@@ -93,11 +99,12 @@ pub record IsLongest (sort : Sort) (piece rest : List ℕ) : Type 0 where
   pub is : IsPiece sort piece
   pub longest : (other : Sort) (bytes more : List ℕ) → IsPiece other bytes → bytes ++ more ≡ piece ++ rest → length bytes ≤ length piece
 
--- the token of a piece that stands behind these bytes; `line` is the line of the token before it, 0 if there is none
+-- the token that a piece at this place is; it is the first of its line if the token before it isn't on that line
 abbrev pub token_of : TokenKind → List ℕ → Place → ℕ → Token
 token_of kind piece at line = record { kind = kind; text = piece; at = at; first = not (nat_eq at.line line) }
 
--- what stands behind `front` is pieces, and these are its tokens
+-- what stands behind `front` is gaps and tokens, one after another, and these are the tokens; `line` is the line of
+-- the token before them, 0 if there is none
 pub data IsTokensBehind : (front : List ℕ) (line : ℕ) (bytes : List ℕ) (tokens : List Token) → Type 0 where
   the_end : (front : List ℕ) (line : ℕ) → IsTokensBehind front line [] []
   a_gap : (front piece rest : List ℕ) (line : ℕ) (tokens : List Token) → IsLongest gap piece rest → IsTokensBehind (front ++ piece) line rest tokens → IsTokensBehind front line (piece ++ rest) tokens
