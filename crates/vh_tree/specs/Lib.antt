@@ -1,3 +1,6 @@
 -- The words that public contracts rest on.
 pub mod VToken
+pub mod Text
+pub mod Grammar
+pub mod Spelling
 pub mod Canonical
