@@ -6,3 +6,6 @@ pub mod AgainExprs
 pub mod AgainStmts
 pub mod AgainDesign
 pub mod AgainWhole
+pub mod ScanRuns
+pub mod ScanSound
+pub mod ScanComplete

@@ -4,3 +4,5 @@ pub mod Text
 pub mod Grammar
 pub mod Spelling
 pub mod Canonical
+-- What functions inside promise each other, and laws that callers cite.
+pub mod Scan
