@@ -9,3 +9,6 @@ pub mod AgainWhole
 pub mod ScanRuns
 pub mod ScanSound
 pub mod ScanComplete
+pub mod ReadExact
+pub mod ReadExprs
+pub mod ReadStmts

@@ -6,3 +6,4 @@ pub mod Spelling
 pub mod Canonical
 -- What functions inside promise each other, and laws that callers cite.
 pub mod Scan
+pub mod Read
