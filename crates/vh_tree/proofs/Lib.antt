@@ -1,3 +1,4 @@
+-- Proofs of the laws on what texts spell: `Again` and its kin for the canonical text, `Scan` and `Read` for reading.
 pub mod Equations
 pub mod Texts
 pub mod Names
@@ -12,3 +13,6 @@ pub mod ScanComplete
 pub mod ReadExact
 pub mod ReadExprs
 pub mod ReadStmts
+pub mod ReadVars
+pub mod ReadItems
+pub mod ReadWhole

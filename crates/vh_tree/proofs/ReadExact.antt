@@ -1,12 +1,11 @@
 -- Reading exactly what is spelled.
-use Rattle.std.proofs.Common.{◌≡◌, ℕ, zero, suc, ◌<◌, ◌≤◌, Bool, true, false, cond, List, [], ◌∷◌, length, drop, Option, Some, None, refl, ap, subst, ◌∙◌, arith, rules, ◌⊎◌, inl, inr}
+use Rattle.std.proofs.Common.{◌≡◌, ℕ, zero, suc, ◌<◌, ◌≤◌, Bool, true, false, List, [], ◌∷◌, length, drop, Some, None, refl, ap, subst, ◌∙◌, arith, rules, inl, inr}
 use denote.Enum.Bare.{same_true}
 use Rattle.vh_tree.specs.contracts.token.Mark.{the_type}
 use Rattle.vh_tree.specs.declared.token.Mark.{Mark}
 use Rattle.vh_tree.specs.declared.token.Token.{Token}
 use Rattle.vh_tree.specs.declared.token.Token.TheVariants as t
 use Rattle.vh_tree.specs.Grammar.{IsSeparated, the_last, and_more, IsMany, no_more, one_more}
-use Rattle.vh_tree.specs.Scan.{◌>>=◌}
 use Rattle.vh_tree.specs.Read.{Read, same_mark, sees, after, separated_at, many_at}
 use Rattle.vh_tree.proofs.ScanSound.{bind_some, chosen, some_is, moved}
 

@@ -7,7 +7,6 @@ use Rattle.vh_tree.specs.declared.token.Token.TheVariants as t
 use Rattle.rw_base.specs.declared.bit.Bit9.{Bit9}
 use Rattle.vh_tree.specs.declared.expr.VExpr.{VExpr}
 use Rattle.vh_tree.specs.declared.expr.VExpr.TheVariants as w
-use Rattle.vh_tree.specs.Scan.{◌>>=◌}
 use Rattle.vh_tree.specs.Grammar.{name_of, IsSeparated, the_last, and_more, join_of, IsRef, a_name, a_slice, a_call, IsTerm, a_ref, a_literal, IsExpr, an_expr, IsArgs}
 use Rattle.vh_tree.specs.Read.{Read, same_mark, sees, after, separated_at, number_at, bits_at, name_at, begins_number, begins_id, begins_bits, slice_at, call_at, opened_at, ref_at, term_at, expr_at, args_at}
 use Rattle.vh_tree.proofs.ScanSound.{bind_some, chosen, some_is, moved}
@@ -55,7 +54,7 @@ closes_ends : (rest : List Token) → ends_args (t.Mark m.Closes ∷ rest) ≡ t
 unfolding same_mark
 closes_ends rest = refl
 
-number_is : (ts : List Token) (p : ℕ × List Token) → number_at ts ≡ Some p → ts ≡ t.Number p.0 ∷ p.1
+pub number_is : (ts : List Token) (p : ℕ × List Token) → number_at ts ≡ Some p → ts ≡ t.Number p.0 ∷ p.1
 number_is [] p e = absurd (cc)
 number_is (t.Number n ∷ ts) p e = ap (λ (q : ℕ × List Token). t.Number q.0 ∷ q.1) (some_is (n, ts) p e)
 number_is (t.Mark a ∷ ts) p e = absurd (cc)

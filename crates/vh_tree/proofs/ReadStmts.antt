@@ -15,7 +15,7 @@ use Rattle.vh_tree.specs.declared.token.Side.TheVariants as side
 use Rattle.vh_tree.specs.VToken.{assign_mark}
 use Rattle.vh_tree.specs.Scan.{◌>>=◌}
 use Rattle.vh_tree.specs.Grammar.{name_of, IsSeparated, IsMany, IsRef, a_name, a_slice, a_call, IsExpr, IsArgs, target_of, IsTest, equal, rising, reset, IsBranch, a_branch, IsElse, absent, present, IsChoice, a_choice, IsStmt, an_assignment, an_if, IsChoiceAt, IsStmts}
-use Rattle.vh_tree.specs.Read.{Read, same_mark, sees, after, separated_at, many_at, bits_at, ref_at, expr_at, args_at, target_at, begins_target, begins_stmt, rising_at, reset_at, equal_at, test_at, branch_at, else_at, choice_at, assign_at, stmt_at, stmts_at, choice_levels}
+use Rattle.vh_tree.specs.Read.{Read, same_mark, sees, after, separated_at, bits_at, ref_at, expr_at, args_at, target_at, begins_target, begins_stmt, rising_at, reset_at, equal_at, test_at, branch_at, else_at, choice_at, assign_at, stmt_at, stmts_at, choice_levels}
 use Rattle.vh_tree.proofs.ScanSound.{bind_some, chosen, some_is, moved}
 use Rattle.vh_tree.proofs.ReadExact.{same_self, seen_is, after_is, after_mark, Exact, separated_exact, many_sound, many_read, many_shorter}
 use Rattle.vh_tree.proofs.ReadExprs.{ends_ref, ends_expr, not_true, neither, bits_is, expr_at_exact, ref_at_exact}

@@ -7,3 +7,4 @@ pub mod Canonical
 -- What functions inside promise each other, and laws that callers cite.
 pub mod Scan
 pub mod Read
+pub mod ReadDesign

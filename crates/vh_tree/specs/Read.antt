@@ -1,5 +1,5 @@
 -- Reading a design from the front of a list of tokens, as functions on lists: what a reader computes, held against `Grammar`.
-use Rattle.std.specs.Prelude.{ℕ, zero, suc, nat_eq, Bool, true, false, ◌||◌, List, [], ◌∷◌, length, drop, Option, Some, None, if◌then◌else◌, bytes_eq}
+use Rattle.std.specs.Prelude.{ℕ, zero, suc, Bool, true, false, ◌||◌, List, [], ◌∷◌, length, drop, Option, Some, None, if◌then◌else◌}
 use denote.Enum.Bare.{sameb}
 use Rattle.vh_tree.specs.contracts.token.Mark.{the_type}
 use Rattle.rw_base.specs.declared.bit.Bit9.{Bit9}
@@ -17,7 +17,7 @@ use Rattle.vh_tree.specs.declared.stmt.VStmt.{VStmt}
 use Rattle.vh_tree.specs.declared.stmt.VStmt.TheVariants as s
 use Rattle.vh_tree.specs.declared.stmt.Branch.{Branch}
 use Rattle.vh_tree.specs.VToken.{assign_mark}
-use Rattle.vh_tree.specs.Grammar.{name_of, join_of, target_of, max_levels}
+use Rattle.vh_tree.specs.Grammar.{name_of, join_of, target_of}
 use Rattle.vh_tree.specs.Scan.{◌>>=◌}
 
 -- `==` on marks
@@ -247,4 +247,3 @@ module _ (at : Side) (args : List Token → Read (List VExpr)) (choice : List To
 unfoldable pub choice_levels : Side → ℕ → List Token → Read (List Branch × List VStmt)
 choice_levels at zero ts = None
 choice_levels at (suc n) ts = choice_at (args_at n) (stmts_at at (args_at n) (choice_levels at n)) ts
-

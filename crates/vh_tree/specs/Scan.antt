@@ -1,5 +1,5 @@
 -- The tokens of a text, as functions on lists: what a reader computes, held against `Text`.
-use Rattle.std.specs.Prelude.{◌≡◌, ℕ, Bool, zero, suc, ◌+◌, ◌-◌, ◌*◌, not, ◌||◌, ◌&&◌, nat_eq, nat_lt, List, [], ◌∷◌, map, length, drop, Option, Some, None, if◌then◌else◌, codes}
+use Rattle.std.specs.Prelude.{ℕ, Bool, zero, suc, ◌+◌, ◌-◌, ◌*◌, not, ◌||◌, ◌&&◌, nat_eq, nat_lt, List, [], ◌∷◌, map, length, drop, Option, Some, None, if◌then◌else◌, codes}
 use Rattle.std.specs.Str.{bytes_eq}
 use Rattle.std.specs.List.{list_any}
 use Rattle.std.specs.Char.{is_ascii_digit, is_ascii_alphabetic, to_ascii_lowercase}

@@ -31,3 +31,10 @@ pub record BreaksGrammar (bytes : List ℕ) : Type 0 where
   pub tokens : List Token
   pub text : IsText bytes tokens
   pub no_design : (design : Design) → SpellsDesign tokens design → ⊥
+
+-- what a text is: it spells a design, or breaks one of V1, V2 and V3, which are judged in this order
+pub data IsJudged (bytes : List ℕ) : Type 0 where
+  spelled : (design : Design) → IsSpelled bytes design → IsJudged bytes
+  bytes_broken : BreaksBytes bytes → IsJudged bytes
+  tokens_broken : BreaksTokens bytes → IsJudged bytes
+  grammar_broken : BreaksGrammar bytes → IsJudged bytes

@@ -1,7 +1,8 @@
 // Laws on what texts spell: each is the contract of a function that does nothing, for callers to cite.
-ghost use Rattle.std.specs.Prelude.{◌≡◌, ◌∷◌, ◌++◌, [], List, map, ℕ};
+ghost use Rattle.std.specs.Prelude.{◌≡◌, ◌↔◌, ◌∷◌, ◌++◌, [], List, map, ℕ, Some};
 ghost use Rattle.rw_base.specs.declared.bit.Bit9.{Bit9};
 ghost use Rattle.vh_tree.specs.declared.token.Mark.TheVariants as m;
+ghost use Rattle.vh_tree.specs.declared.token.Token.{Token};
 ghost use Rattle.vh_tree.specs.declared.token.Token.TheVariants as t;
 ghost use Rattle.vh_tree.specs.declared.token.Side.{Side};
 ghost use Rattle.vh_tree.specs.declared.expr.VExpr.{VExpr};
@@ -12,12 +13,35 @@ ghost use Rattle.vh_tree.specs.declared.stmt.VStmt.TheVariants as s;
 ghost use Rattle.vh_tree.specs.declared.stmt.Branch.{Branch};
 ghost use Rattle.vh_tree.specs.declared.design.Design.{Design};
 ghost use Rattle.vh_tree.specs.VToken.{assign_mark, marks, name_token};
-ghost use Rattle.vh_tree.specs.Spelling.{IsSpelled};
+ghost use Rattle.vh_tree.specs.Text.{IsText};
+ghost use Rattle.vh_tree.specs.Spelling.{IsJudged, IsSpelled, SpellsDesign};
+ghost use Rattle.vh_tree.specs.Scan.{scanned};
+ghost use Rattle.vh_tree.specs.ReadDesign.{design_of};
 ghost use Rattle.vh_tree.specs.Canonical.{branch_tokens, canonical_text, else_tokens, expr_tokens, range_tokens, separated, stmt_tokens, stmts_tokens, test_tokens};
 
 /// Where any text spells a design, the canonical text of the design spells it.
 pub fn canonical_text_spells()
     ensures { (bytes : List ℕ) (design : Design) → IsSpelled bytes design → IsSpelled (canonical_text design) design }
+{}
+
+/// A text spells one design at most.
+pub fn one_design_for_a_text()
+    ensures { (bytes : List ℕ) (a b : Design) → IsSpelled bytes a → IsSpelled bytes b → a ≡ b }
+{}
+
+/// Every text spells a design, or breaks one of the rules V1 to V3, which are judged in order over the whole text.
+pub fn every_text_is_judged()
+    ensures { (bytes : List ℕ) → IsJudged bytes }
+{}
+
+/// Reading from left to right gives exactly the tokens that a text spells.
+pub fn tokens_are_scanned()
+    ensures { (bytes : List ℕ) (tokens : List Token) → IsText bytes tokens ↔ (scanned bytes ≡ Some tokens) }
+{}
+
+/// Reading from left to right, with one token of lookahead, gives exactly the design that tokens spell.
+pub fn designs_are_read()
+    ensures { (tokens : List Token) (design : Design) → SpellsDesign tokens design ↔ (design_of tokens ≡ Some design) }
 {}
 
 /// The canonical tokens of each form of expression.

@@ -17,7 +17,10 @@ pub use design::{Design, Item};
 pub use expr::VExpr;
 pub use function::{Function, Var};
 pub use ident::Ident;
-pub use law::{canonical_text_spells, tokens_of_expressions, tokens_of_statements};
+pub use law::{
+    canonical_text_spells, designs_are_read, every_text_is_judged, one_design_for_a_text,
+    tokens_are_scanned, tokens_of_expressions, tokens_of_statements,
+};
 pub use process::Process;
 pub use stmt::{Branch, Test, VStmt};
 pub use token::{Mark, Side, Token};
