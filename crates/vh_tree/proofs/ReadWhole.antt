@@ -12,9 +12,9 @@ use Rattle.vh_tree.specs.VToken.{marks, library_marks, entity_marks, outp_marks,
 use Rattle.vh_tree.specs.Grammar.{IsSeparated, IsMany, IsStmts, IsVec, IsItem, sensitive_of, IsSensitive, a_sensitive, IsProcess, a_process, IsDesign, a_design, max_levels}
 use Rattle.vh_tree.specs.Spelling.{SpellsDesign, IsSpelled, IsJudged, spelled, bytes_broken, tokens_broken, grammar_broken}
 use Rattle.vh_tree.specs.Text.{all_allowed, IsText}
-use Rattle.vh_tree.specs.Scan.{scanned}
+use Rattle.vh_tree.specs.Scan.{◌>>=◌, scanned}
 use Rattle.vh_tree.specs.Read.{Read, same_mark, sees, after, args_at, stmts_at, choice_levels, if_whole}
-use Rattle.vh_tree.specs.ReadDesign.{after_all, vec_at, begins_item, items_at, sensitive_at, names_at, process_at, processes_at, ports_at, design_at, design_of}
+use Rattle.vh_tree.specs.ReadDesign.{after_all, vec_at, begins_item, items_at, sensitive_at, names_at, process_at, processes_at, ports_at, design_at, design_of, read_text}
 use Rattle.vh_tree.proofs.ScanSound.{bind_some, some_is, moved}
 use Rattle.vh_tree.proofs.ScanComplete.{scanned_sound, scanned_complete, one_reading}
 use Rattle.vh_tree.proofs.ReadExact.{same_self, after_is, after_mark, Exact, separated_exact}
@@ -193,3 +193,9 @@ judged_bytes bytes false e = bytes_broken (sym e)
 
 pub judged : (bytes : List ℕ) → IsJudged bytes
 judged bytes = judged_bytes bytes (all_allowed bytes) refl
+
+-- what reading gives is spelled
+pub spelled_if : {bytes : List ℕ} {design : Design} → all_allowed bytes ≡ true → read_text bytes ≡ Some design → IsSpelled bytes design
+spelled_if {bytes} {design} h e =
+    let b = bind_some (scanned bytes) design_of design e in
+    record { allowed = h; tokens = b.0; text = scanned_sound bytes b.0 b.1; tree = design_of_sound b.0 design b.2 }

@@ -15,7 +15,7 @@ use Rattle.vh_tree.specs.declared.design.Item.TheVariants as i
 use Rattle.vh_tree.specs.declared.design.Design.{Design}
 use Rattle.vh_tree.specs.VToken.{library_marks, entity_marks, outp_marks, architecture_marks, end_marks}
 use Rattle.vh_tree.specs.Grammar.{sensitive_of, max_levels}
-use Rattle.vh_tree.specs.Scan.{◌>>=◌}
+use Rattle.vh_tree.specs.Scan.{◌>>=◌, scanned}
 use Rattle.vh_tree.specs.Read.{Read, sees, after, number_at, separated_at, many_at, args_at, expr_at, stmts_at, choice_levels, if_whole}
 
 -- the tokens after these marks
@@ -172,3 +172,7 @@ design_at levels ts = do
 -- the design that tokens spell, all of them
 unfoldable pub design_of : List Token → Option Design
 design_of ts = design_at max_levels ts >>= if_whole
+
+-- the design that a text spells whose bytes are allowed
+abbrev pub read_text : List ℕ → Option Design
+read_text bytes = scanned bytes >>= design_of

@@ -24,3 +24,6 @@ pub use law::{
 pub use process::Process;
 pub use stmt::{Branch, Test, VStmt};
 pub use token::{Mark, Side, Token};
+
+#[cfg(test)]
+mod tests;
