@@ -12,7 +12,7 @@ use Rattle.vh_tree.specs.VToken.{marks, library_marks, entity_marks, outp_marks,
 use Rattle.vh_tree.specs.Grammar.{IsSeparated, IsMany, IsStmts, IsVec, IsItem, sensitive_of, IsSensitive, a_sensitive, IsProcess, a_process, IsDesign, a_design, max_levels}
 use Rattle.vh_tree.specs.Spelling.{SpellsDesign, IsSpelled, IsJudged, spelled, bytes_broken, tokens_broken, grammar_broken}
 use Rattle.vh_tree.specs.Text.{all_allowed, IsText}
-use Rattle.vh_tree.specs.Scan.{◌>>=◌, scanned}
+use Rattle.vh_tree.specs.Scan.{scanned}
 use Rattle.vh_tree.specs.Read.{Read, same_mark, sees, after, args_at, stmts_at, choice_levels, if_whole}
 use Rattle.vh_tree.specs.ReadDesign.{after_all, vec_at, begins_item, items_at, sensitive_at, names_at, process_at, processes_at, ports_at, design_at, design_of, read_text}
 use Rattle.vh_tree.proofs.ScanSound.{bind_some, some_is, moved}
