@@ -21,7 +21,7 @@ use Rattle.vh_tree.proofs.AgainStmts.{stmts_again}
 before_suc : (n : ℕ) → suc n - 1 ≡ n
 before_suc n = omega arith
 
-vec_is : (n : ℕ) → vec_tokens (suc n) ≡ t.Mark m.StdLogicVector ∷ range_tokens n 0
+pub vec_is : (n : ℕ) → vec_tokens (suc n) ≡ t.Mark m.StdLogicVector ∷ range_tokens n 0
 unfolding vec_tokens
 vec_is n = ap (λ z. t.Mark m.StdLogicVector ∷ range_tokens z 0) (before_suc n)
 
@@ -101,11 +101,11 @@ vars_again : Again (λ (vs : List Var). joined (map (var_tokens m.Variable) vs))
 vars_again = let all = many_again (var_tokens m.Variable) (IsVar m.Variable) (var_again m.Variable) in record { again = all.again; front = all.front; behind = all.behind }
 
 -- ---- functions
-abbrev function_from : Token → List Token → List Token → List Token → List Token → List Token → List Token
+abbrev pub function_from : Token → List Token → List Token → List Token → List Token → List Token → List Token
 function_from x p v b e later =
     t.Mark m.Function ∷ x ∷ (p ++ t.Mark m.Return ∷ t.Mark m.StdLogicVector ∷ t.Mark m.Is ∷ (v ++ t.Mark m.Begin ∷ (b ++ t.Mark m.Return ∷ (e ++ t.Mark m.Semicolon ∷ t.Mark m.End ∷ x ∷ t.Mark m.Semicolon ∷ later))))
 
-function_whole : (x : Token) (p v b e later : List Token)
+pub function_whole : (x : Token) (p v b e later : List Token)
     → ((t.Mark m.Function ∷ x ∷ (p ++ t.Mark m.Return ∷ t.Mark m.StdLogicVector ∷ t.Mark m.Is ∷ v))
     ++ (t.Mark m.Begin ∷ (b ++ t.Mark m.Return ∷ (e ++ t.Mark m.Semicolon ∷ t.Mark m.End ∷ x ∷ t.Mark m.Semicolon ∷ [])))) ++ later ≡ function_from x p v b e later
 function_whole x p v b e later = simp append_assoc

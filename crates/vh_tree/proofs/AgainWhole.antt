@@ -32,10 +32,14 @@ names_again =
     let all = separated_again (λ (x : List ℕ). name_token x ∷ []) m.Comma IsSensitive (record { again = sensitive_once; front = sensitive_front; behind = sensitive_behind }) in
     record { again = all.again; front = all.front; behind = all.behind }
 
-process_whole : (n b later : List Token)
+pub process_whole : (n b later : List Token)
     → (t.Mark m.Process ∷ t.Mark m.Opens ∷ (n ++ t.Mark m.Closes ∷ t.Mark m.Begin ∷ (b ++ t.Mark m.End ∷ t.Mark m.Process ∷ t.Mark m.Semicolon ∷ []))) ++ later
     ≡ t.Mark m.Process ∷ t.Mark m.Opens ∷ (n ++ t.Mark m.Closes ∷ t.Mark m.Begin ∷ (b ++ t.Mark m.End ∷ t.Mark m.Process ∷ t.Mark m.Semicolon ∷ later))
 process_whole n b later = simp append_assoc
+
+pub design_whole : (l e v o u a x p d later : List Token)
+    → ((l ++ (e ++ (v ++ (o ++ (u ++ a))))) ++ (x ++ t.Mark m.Begin ∷ (p ++ d))) ++ later ≡ l ++ (e ++ (v ++ (o ++ (u ++ (a ++ (x ++ t.Mark m.Begin ∷ (p ++ (d ++ later))))))))
+design_whole l e v o u a x p d later = simp append_assoc
 
 module _ (levels : ℕ) where
   process_once : (ts : List Token) (p : Process) (rest later : List Token) → AllTokens ts → IsProcess levels ts p rest → IsProcess levels (process_tokens p ++ later) p later
@@ -82,10 +86,6 @@ module _ (levels : ℕ) where
   items_again = many_again item_tokens (IsItem levels) (item_again levels)
 
   -- ---- the whole
-  design_whole : (l e v o u a x p d later : List Token)
-      → ((l ++ (e ++ (v ++ (o ++ (u ++ a))))) ++ (x ++ t.Mark m.Begin ∷ (p ++ d))) ++ later ≡ l ++ (e ++ (v ++ (o ++ (u ++ (a ++ (x ++ t.Mark m.Begin ∷ (p ++ (d ++ later))))))))
-  design_whole l e v o u a x p d later = simp append_assoc
-
   design_once : (ts : List Token) (d : Design) (rest later : List Token) → AllTokens ts → IsDesign levels ts d rest → IsDesign levels (design_tokens d ++ later) d later
   unfolding head_tokens
   design_once _ _ _ later h (a_design inp outp items processes first second inner behind rest di do_ dx dp) =

@@ -16,3 +16,6 @@ pub mod ReadStmts
 pub mod ReadVars
 pub mod ReadItems
 pub mod ReadWhole
+pub mod Made
+pub mod MadeStmts
+pub mod MadeDesign

@@ -30,19 +30,19 @@ id_named x d =
     other _ (t.Mark m.Inp) _ (no_port m.Inp refl x d) ∙ other _ (t.Mark m.Outp) _ (no_port m.Outp refl x d)
     ∙ other _ (t.Mark m.Clk) _ (no_port m.Clk refl x d) ∙ other _ (t.Mark m.Rst) _ (no_port m.Rst refl x d)
 
-inp_named : name_token (codes "inp") ≡ t.Mark m.Inp
+pub inp_named : name_token (codes "inp") ≡ t.Mark m.Inp
 unfolding name_token
 inp_named = refl
 
-outp_named : name_token (codes "outp") ≡ t.Mark m.Outp
+pub outp_named : name_token (codes "outp") ≡ t.Mark m.Outp
 unfolding name_token
 outp_named = refl
 
-clk_named : name_token (codes "clk") ≡ t.Mark m.Clk
+pub clk_named : name_token (codes "clk") ≡ t.Mark m.Clk
 unfolding name_token
 clk_named = refl
 
-rst_named : name_token (codes "rst") ≡ t.Mark m.Rst
+pub rst_named : name_token (codes "rst") ≡ t.Mark m.Rst
 unfolding name_token
 rst_named = refl
 

@@ -15,6 +15,7 @@ ghost use Rattle.vh_tree.specs.declared.design.Design.{Design};
 ghost use Rattle.vh_tree.specs.VToken.{assign_mark, marks, name_token};
 ghost use Rattle.vh_tree.specs.Text.{IsText};
 ghost use Rattle.vh_tree.specs.Spelling.{IsJudged, IsSpelled, SpellsDesign};
+ghost use Rattle.vh_tree.specs.Spellable.{IsSpellable};
 ghost use Rattle.vh_tree.specs.Scan.{scanned};
 ghost use Rattle.vh_tree.specs.ReadDesign.{design_of};
 ghost use Rattle.vh_tree.specs.Canonical.{branch_tokens, canonical_text, else_tokens, expr_tokens, range_tokens, separated, stmt_tokens, stmts_tokens, test_tokens};
@@ -22,6 +23,11 @@ ghost use Rattle.vh_tree.specs.Canonical.{branch_tokens, canonical_text, else_to
 /// Where any text spells a design, the canonical text of the design spells it.
 pub fn canonical_text_spells()
     ensures { (bytes : List ℕ) (design : Design) → IsSpelled bytes design → IsSpelled (canonical_text design) design }
+{}
+
+/// The canonical text of a design that can be spelled spells it.
+pub fn spellable_designs_are_spelled()
+    ensures { (design : Design) → IsSpellable design → IsSpelled (canonical_text design) design }
 {}
 
 /// A text spells one design at most.
