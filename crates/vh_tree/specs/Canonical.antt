@@ -22,7 +22,7 @@ use Rattle.vh_tree.specs.declared.process.Process.{Process}
 use Rattle.vh_tree.specs.declared.design.Item.{Item}
 use Rattle.vh_tree.specs.declared.design.Item.TheVariants.{Signal, Function as Declared}
 use Rattle.vh_tree.specs.declared.design.Design.{Design}
-use Rattle.vh_tree.specs.VToken.{bytes_of, name_token}
+use Rattle.vh_tree.specs.VToken.{bytes_of, name_token, marks, assign_mark, library_marks, entity_marks, outp_marks, architecture_marks, end_marks}
 
 -- ---- tokens and their text
 
@@ -46,10 +46,6 @@ with_separator x = bytes_of x ++ separator x ∷ []
 -- the text of tokens
 abbrev pub spelled : List Token → List ℕ
 spelled = flat_map with_separator
-
--- marks as tokens
-abbrev pub marks : List Mark → List Token
-marks = map (λ (a : Mark). t.Mark a)
 
 -- ---- lists
 
@@ -91,11 +87,6 @@ abbrev pub test_tokens : Test → List Token
 test_tokens (Equal e bits) = expr_tokens e ++ t.Mark m.Equal ∷ t.Bits bits ∷ []
 test_tokens Rising = marks (m.RisingEdge ∷ m.Opens ∷ m.Clk ∷ m.Closes ∷ [])
 test_tokens Reset = marks (m.Rst ∷ m.Equal ∷ m.High ∷ [])
-
--- the mark of an assignment
-abbrev pub assign_mark : Side → Mark
-assign_mark side.Function = m.Assign
-assign_mark side.Process = m.Drive
 
 -- `else` and its statements; an empty one is not written
 abbrev pub else_tokens : List (List Token) → List Token
@@ -170,23 +161,6 @@ process_tokens p =
     marks (m.Process ∷ m.Opens ∷ []) ++ (names_tokens p.sensitive
     ++ (marks (m.Closes ∷ m.Begin ∷ []) ++ (stmts_tokens side.Process p.body ++ marks (m.End ∷ m.Process ∷ m.Semicolon ∷ []))))
 
--- the library and the package that every text uses
-unfoldable pub library_marks : List Mark
-library_marks = m.Library ∷ m.Ieee ∷ m.Semicolon ∷ m.Use ∷ m.Ieee ∷ m.Dot ∷ m.StdLogic1164 ∷ m.Dot ∷ m.All ∷ m.Semicolon ∷ []
-
--- the entity up to the type of `inp`
-unfoldable pub entity_marks : List Mark
-entity_marks =
-    m.Entity ∷ m.Rewire ∷ m.Is ∷ m.Port ∷ m.Opens ∷ m.Clk ∷ m.Colon ∷ m.In ∷ m.StdLogic ∷ m.Semicolon ∷ m.Rst ∷ m.Colon ∷ m.In ∷ m.StdLogic ∷ m.Semicolon ∷ m.Inp ∷ m.Colon ∷ m.In ∷ []
-
--- from there to the type of `outp`
-unfoldable pub outp_marks : List Mark
-outp_marks = m.Semicolon ∷ m.Outp ∷ m.Colon ∷ m.Out ∷ []
-
--- the end of the entity and the head of the architecture
-unfoldable pub architecture_marks : List Mark
-architecture_marks = m.Closes ∷ m.Semicolon ∷ m.End ∷ m.Rewire ∷ m.Semicolon ∷ m.Architecture ∷ m.Behaviour ∷ m.Of ∷ m.Rewire ∷ m.Is ∷ []
-
 -- what stands before the declarations
 unfoldable pub head_tokens : ℕ → ℕ → List Token
 head_tokens inp outp = marks library_marks ++ (marks entity_marks ++ (vec_tokens inp ++ (marks outp_marks ++ (vec_tokens outp ++ marks architecture_marks))))
@@ -194,7 +168,7 @@ head_tokens inp outp = marks library_marks ++ (marks entity_marks ++ (vec_tokens
 -- the tokens of a design
 abbrev pub design_tokens : Design → List Token
 design_tokens d =
-    head_tokens d.inp d.outp ++ (joined (map item_tokens d.items) ++ t.Mark m.Begin ∷ (joined (map process_tokens d.processes) ++ marks (m.End ∷ m.Behaviour ∷ m.Semicolon ∷ [])))
+    head_tokens d.inp d.outp ++ (joined (map item_tokens d.items) ++ t.Mark m.Begin ∷ (joined (map process_tokens d.processes) ++ marks end_marks))
 
 -- the canonical text of a design
 abbrev pub canonical_text : Design → List ℕ

@@ -1,5 +1,9 @@
 -- The words that public contracts rest on.
 pub mod VToken
+pub mod Text
+pub mod Grammar
+pub mod Spelling
+pub mod Spellable
 pub mod Canonical
 -- The words that public contracts rest on: what a design means.
 pub mod Bits
@@ -11,3 +15,7 @@ pub mod StaticRules
 pub mod Equations
 pub mod Induction
 pub mod Laws
+-- What functions inside promise each other, and laws that callers cite.
+pub mod Scan
+pub mod Read
+pub mod ReadDesign

@@ -1,9 +1,11 @@
 -- The tokens of the VHDL subset: how each is spelled in lower case (IEEE Std 1076-1993, sections 13.2 to 13.9).
-use Rattle.std.specs.Prelude.{ℕ, List, [], ◌∷◌, ◌++◌, map, codes, decimal, if◌then◌else◌, bytes_eq}
+use Rattle.std.specs.Prelude.{ℕ, Bool, true, false, List, [], ◌∷◌, ◌++◌, map, codes, decimal, if◌then◌else◌, bytes_eq}
 use Rattle.rw_base.specs.declared.bit.Bit9.{Bit9}
 use Rattle.rw_base.specs.declared.bit.Bit9.TheVariants.{U, X, Zero, One, Z, W, L, H, Dash}
 use Rattle.vh_tree.specs.declared.token.Mark.{Mark}
 use Rattle.vh_tree.specs.declared.token.Mark.TheVariants as m
+use Rattle.vh_tree.specs.declared.token.Side.{Side}
+use Rattle.vh_tree.specs.declared.token.Side.TheVariants as side
 use Rattle.vh_tree.specs.declared.token.Token.{Token}
 use Rattle.vh_tree.specs.declared.token.Token.TheVariants as t
 
@@ -80,3 +82,50 @@ name_token name =
     if bytes_eq name (codes "inp") then t.Mark m.Inp
     else (if bytes_eq name (codes "outp") then t.Mark m.Outp
     else (if bytes_eq name (codes "clk") then t.Mark m.Clk else (if bytes_eq name (codes "rst") then t.Mark m.Rst else t.Id name)))
+
+-- the symbols, and the character literal: marks that are no words
+abbrev pub is_symbol : Mark → Bool
+is_symbol m.Opens = true
+is_symbol m.Closes = true
+is_symbol m.Comma = true
+is_symbol m.Semicolon = true
+is_symbol m.Colon = true
+is_symbol m.Dot = true
+is_symbol m.Amp = true
+is_symbol m.Equal = true
+is_symbol m.Assign = true
+is_symbol m.Drive = true
+is_symbol m.High = true
+is_symbol _ = false
+
+-- marks as tokens
+abbrev pub marks : List Mark → List Token
+marks = map (λ (a : Mark). t.Mark a)
+
+-- the mark of an assignment
+abbrev pub assign_mark : Side → Mark
+assign_mark side.Function = m.Assign
+assign_mark side.Process = m.Drive
+
+-- ---- what every text has
+
+-- the library and the package that every text uses
+unfoldable pub library_marks : List Mark
+library_marks = m.Library ∷ m.Ieee ∷ m.Semicolon ∷ m.Use ∷ m.Ieee ∷ m.Dot ∷ m.StdLogic1164 ∷ m.Dot ∷ m.All ∷ m.Semicolon ∷ []
+
+-- the entity up to the type of `inp`
+unfoldable pub entity_marks : List Mark
+entity_marks =
+    m.Entity ∷ m.Rewire ∷ m.Is ∷ m.Port ∷ m.Opens ∷ m.Clk ∷ m.Colon ∷ m.In ∷ m.StdLogic ∷ m.Semicolon ∷ m.Rst ∷ m.Colon ∷ m.In ∷ m.StdLogic ∷ m.Semicolon ∷ m.Inp ∷ m.Colon ∷ m.In ∷ []
+
+-- from there to the type of `outp`
+unfoldable pub outp_marks : List Mark
+outp_marks = m.Semicolon ∷ m.Outp ∷ m.Colon ∷ m.Out ∷ []
+
+-- the end of the entity and the head of the architecture
+unfoldable pub architecture_marks : List Mark
+architecture_marks = m.Closes ∷ m.Semicolon ∷ m.End ∷ m.Rewire ∷ m.Semicolon ∷ m.Architecture ∷ m.Behaviour ∷ m.Of ∷ m.Rewire ∷ m.Is ∷ []
+
+-- the end of the architecture
+unfoldable pub end_marks : List Mark
+end_marks = m.End ∷ m.Behaviour ∷ m.Semicolon ∷ []

@@ -10,6 +10,7 @@ mod expr;
 mod function;
 mod ident;
 mod laws;
+mod law;
 mod process;
 mod stmt;
 mod token;
@@ -25,3 +26,13 @@ pub use process::Process;
 pub use stmt::{Branch, Test, VStmt};
 pub use token::{Mark, Side, Token};
 pub use wire::{Held, State, Wire};
+pub use law::{
+    canonical_text_spells, designs_are_read, every_text_is_judged, one_design_for_a_text,
+    spellable_designs_are_spelled, tokens_are_scanned, tokens_of_expressions, tokens_of_statements,
+};
+pub use process::Process;
+pub use stmt::{Branch, Test, VStmt};
+pub use token::{Mark, Side, Token};
+
+#[cfg(test)]
+mod tests;

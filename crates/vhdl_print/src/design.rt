@@ -1,6 +1,7 @@
 // A whole design at the end of a text.
 ghost use Rattle.std.specs.Prelude.{◌≡◌, ◌++◌, OnOk};
-ghost use Rattle.vh_tree.specs.Canonical.{design_tokens, head_tokens, library_marks, entity_marks, outp_marks, architecture_marks, marks as marks_of, spelled};
+ghost use Rattle.vh_tree.specs.Canonical.{design_tokens, head_tokens, spelled};
+ghost use Rattle.vh_tree.specs.VToken.{architecture_marks, end_marks, entity_marks, library_marks, marks as marks_of, outp_marks};
 
 use crate::function::{push_items, push_vec};
 use crate::process::push_processes;
@@ -9,7 +10,7 @@ use rw_base::OutOfMemory;
 use vh_tree::{Design, Mark};
 
 /// Appends the library and the package that every text uses.
-#[tactic(auto, unfolding(vh_tree::specs::Canonical::library_marks))]
+#[tactic(auto, unfolding(vh_tree::specs::VToken::library_marks))]
 fn push_library(text: &mut Vec<u8>) -> Result<(), OutOfMemory>
     ensures { OnOk result (text.new.items ≡ text.old.items ++ spelled (marks_of library_marks)) }
 {
@@ -22,7 +23,7 @@ fn push_library(text: &mut Vec<u8>) -> Result<(), OutOfMemory>
 }
 
 /// Appends the entity up to the type of `inp`.
-#[tactic(auto, unfolding(vh_tree::specs::Canonical::entity_marks))]
+#[tactic(auto, unfolding(vh_tree::specs::VToken::entity_marks))]
 fn push_entity(text: &mut Vec<u8>) -> Result<(), OutOfMemory>
     ensures { OnOk result (text.new.items ≡ text.old.items ++ spelled (marks_of entity_marks)) }
 {
@@ -60,7 +61,7 @@ fn push_entity(text: &mut Vec<u8>) -> Result<(), OutOfMemory>
 }
 
 /// Appends what stands between the types of the two ports.
-#[tactic(auto, unfolding(vh_tree::specs::Canonical::outp_marks))]
+#[tactic(auto, unfolding(vh_tree::specs::VToken::outp_marks))]
 fn push_outp(text: &mut Vec<u8>) -> Result<(), OutOfMemory>
     ensures { OnOk result (text.new.items ≡ text.old.items ++ spelled (marks_of outp_marks)) }
 {
@@ -68,7 +69,7 @@ fn push_outp(text: &mut Vec<u8>) -> Result<(), OutOfMemory>
 }
 
 /// Appends the end of the entity and the head of the architecture.
-#[tactic(auto, unfolding(vh_tree::specs::Canonical::architecture_marks))]
+#[tactic(auto, unfolding(vh_tree::specs::VToken::architecture_marks))]
 fn push_architecture(text: &mut Vec<u8>) -> Result<(), OutOfMemory>
     ensures { OnOk result (text.new.items ≡ text.old.items ++ spelled (marks_of architecture_marks)) }
 {
@@ -99,6 +100,14 @@ fn push_head(text: &mut Vec<u8>, inp: u32, outp: u32) -> Result<(), OutOfMemory>
     push_architecture(text)
 }
 
+/// Appends the end of the architecture.
+#[tactic(auto, unfolding(vh_tree::specs::VToken::end_marks))]
+fn push_end(text: &mut Vec<u8>) -> Result<(), OutOfMemory>
+    ensures { OnOk result (text.new.items ≡ text.old.items ++ spelled (marks_of end_marks)) }
+{
+    push_marks(text, &[Mark::End, Mark::Behaviour, Mark::Semicolon])
+}
+
 /// Appends a design.
 pub fn push_design(text: &mut Vec<u8>, design: &Design) -> Result<(), OutOfMemory>
     ensures { OnOk result (text.new.items ≡ text.old.items ++ spelled (design_tokens design.now)) }
@@ -107,5 +116,5 @@ pub fn push_design(text: &mut Vec<u8>, design: &Design) -> Result<(), OutOfMemor
     push_items(text, design.items.as_slice())?;
     push_mark(text, Mark::Begin)?;
     push_processes(text, design.processes.as_slice())?;
-    push_marks(text, &[Mark::End, Mark::Behaviour, Mark::Semicolon])
+    push_end(text)
 }

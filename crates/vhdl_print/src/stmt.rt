@@ -1,7 +1,8 @@
 // Statements at the end of a text.
 ghost use Rattle.std.specs.Prelude.{◌≡◌, ◌++◌, OnOk, map};
 ghost use Rattle.vh_tree.specs.declared.token.Mark.TheVariants as m;
-ghost use Rattle.vh_tree.specs.Canonical.{assign_mark, branch_tokens, else_tokens, separated, spelled, stmt_tokens, stmts_tokens};
+ghost use Rattle.vh_tree.specs.VToken.{assign_mark};
+ghost use Rattle.vh_tree.specs.Canonical.{branch_tokens, else_tokens, separated, spelled, stmt_tokens, stmts_tokens};
 
 use crate::expr::{push_expr, push_tests};
 use crate::text::{push_mark, push_marks, push_name};

@@ -2,8 +2,8 @@
 ghost use Rattle.std.specs.Prelude.{◌≡◌, ◌∷◌, ◌++◌, [], OnOk};
 ghost use Rattle.rw_base.specs.declared.bit.Bit9.{Bit9};
 ghost use Rattle.vh_tree.specs.declared.token.Token.TheVariants as t;
-ghost use Rattle.vh_tree.specs.VToken.{letter, name_token};
-ghost use Rattle.vh_tree.specs.Canonical.{separator, spelled, range_tokens, marks as marks_of};
+ghost use Rattle.vh_tree.specs.VToken.{letter, marks as marks_of, name_token};
+ghost use Rattle.vh_tree.specs.Canonical.{range_tokens, separator, spelled};
 
 use itoa::Buffer;
 use rw_base::{Bit9, OutOfMemory};
