@@ -6,3 +6,4 @@ pub mod Apart
 pub mod Orders
 pub mod Settling
 pub mod FirstBroken
+pub mod ExprWidth

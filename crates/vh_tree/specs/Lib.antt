@@ -7,4 +7,5 @@ pub mod StaticRules
 -- Laws of these words, which proofs above cite.
 pub mod Equations
 pub mod Induction
+pub mod Widths
 pub mod Laws
