@@ -7,3 +7,5 @@ pub mod Orders
 pub mod Settling
 pub mod FirstBroken
 pub mod ExprWidth
+pub mod Stores
+pub mod StmtWidth
