@@ -16,7 +16,7 @@ use Rattle.vh_tree.proofs.Tests.{both_left, both_right, either_cases}
 pub carried : (w u : Width) (value other : Bits) → w ≡ u → value ≡ other → HasWidth u other → HasWidth w value
 carried w u value other e f h = subst (λ z. HasWidth z value) (sym e) (subst (λ z. HasWidth u z) (sym f) h)
 
-of_name : (w : Width) (shape : Option Shape) (value : Bits) → HasWidth w value → HasWidth (width_of_name w shape) value
+pub of_name : (w : Width) (shape : Option Shape) (value : Bits) → HasWidth w value → HasWidth (width_of_name w shape) value
 of_name None shape value h = absurd h
 of_name (Some n) shape value h = h
 

@@ -9,3 +9,5 @@ pub mod FirstBroken
 pub mod ExprWidth
 pub mod Stores
 pub mod StmtWidth
+pub mod Copies
+pub mod FunctionWidth

@@ -1,12 +1,12 @@
 -- The statements of a function of which the static rules hold keep the widths of its store.
-use Rattle.std.proofs.Common.{◌≡◌, ℕ, List, [], ◌∷◌, Bool, true, false, ◌&&◌, refl, ap, sym, subst, ◌∙◌, map, if◌then◌else◌, Some, length}
+use Rattle.std.proofs.Common.{◌≡◌, List, [], ◌∷◌, Bool, true, false, ◌&&◌, sym, subst, ◌∙◌, map, if◌then◌else◌, Some, length}
 use Rattle.std.specs.List.{list_all, AllByRecursion}
-use Rattle.vh_tree.specs.Bits.{Bytes, Bits}
-use Rattle.vh_tree.specs.Functions.{Calls, Store, World, Effect, Choice, expr_of, scope_in, stored, function_world, stmt_of, branch_of, stmts_of, first_taken}
-use Rattle.vh_tree.specs.StaticRules.{Names, Widths, Width, keeps, all_true, test_keeps, names_well, uses_earlier, measured, fits_in, agree, width_among}
+use Rattle.vh_tree.specs.Bits.{Bytes}
+use Rattle.vh_tree.specs.Functions.{Calls, Store, Effect, Choice, expr_of, scope_in, function_world, stmt_of, branch_of, stmts_of, first_taken}
+use Rattle.vh_tree.specs.StaticRules.{Names, Widths, keeps, all_true, test_keeps, names_well, uses_earlier, measured, fits_in, agree, width_among}
 use Rattle.vh_tree.specs.Widths.{HasWidth, KeepsWidths, StoreHasWidths}
 use Rattle.vh_tree.specs.Equations.{stmt_of-Assign, stmt_of-If, branch_of-Branch, keeps-Assign, keeps-If, branch_keeps, branch_keeps-Branch}
-use Rattle.vh_tree.specs.Induction.{ClaimsOfStmt, every_stmt}
+use Rattle.vh_tree.specs.Induction.{every_stmt}
 use Rattle.vh_tree.specs.declared.expr.VExpr.{VExpr}
 use Rattle.vh_tree.specs.declared.stmt.Test.{Test}
 use Rattle.vh_tree.specs.declared.stmt.VStmt.{VStmt}

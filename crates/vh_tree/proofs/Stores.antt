@@ -1,5 +1,5 @@
 -- Stores whose values have their widths: what is read has its width, and an assignment that agrees keeps them.
-use Rattle.std.proofs.Common.{◌≡◌, ℕ, suc, ◌+◌, ◌≤◌, List, [], ◌∷◌, ◌++◌, length, get_or, take, drop, map, Bool, true, false, ◌&&◌, ◌||◌, ◌==◌, ◌⊎◌, inl, inr, refl, ap, sym, subst, ◌∙◌, Option, Some, None, arith, eqb→eq, T, if◌then◌else◌}
+use Rattle.std.proofs.Common.{◌≡◌, ℕ, suc, ◌≤◌, List, [], ◌∷◌, ◌++◌, length, get_or, take, drop, map, Bool, true, false, ◌⊎◌, inl, inr, refl, ap, sym, subst, ◌∙◌, Option, Some, None, arith, eqb→eq, T, if◌then◌else◌}
 use Rattle.std.proofs.lemmas.List.{length-replicate}
 use mathlib.Core.Bool.{true≢false}
 use Rattle.vh_tree.specs.Bits.{Bytes, Bits, same_name, is_among}
@@ -8,7 +8,7 @@ use Rattle.vh_tree.specs.StaticRules.{Width, Shape, width_of_name, result_of, ag
 use Rattle.vh_tree.specs.Widths.{HasWidth, StoreHasWidths}
 use Rattle.vh_tree.specs.declared.function.Var.{Var}
 use Rattle.vh_tree.specs.declared.wire.Held.{Held}
-use Rattle.vh_tree.proofs.Tests.{either_cases, either_right, name_turned}
+use Rattle.vh_tree.proofs.Tests.{either_cases, either_left, either_right, name_turned}
 
 named_step : (b c : Bool) → c ≡ b → (n : ℕ) (w : Width) (shape : Option Shape) (u r : Bits) → length u ≡ n → HasWidth (width_of_name w shape) r →
     HasWidth (width_of_name (if b then Some n else w) shape) (if c then u else r)
@@ -85,3 +85,11 @@ parameters_width (p ∷ ps) (v ∷ vs) (a ∷ args) long e =
 pub among_later : (x : Bytes) (us vs : List Var) → is_among x (names_of vs) ≡ true → is_among x (names_of (us ++ vs)) ≡ true
 among_later x [] vs a = a
 among_later x (u ∷ us) vs a = either_right (same_name x u.name) (is_among x (names_of (us ++ vs))) (among_later x us vs a)
+
+among_first : (x y : Bytes) (names more : List Bytes) → (is_among x names ≡ true → is_among x more ≡ true) → (same_name x y ≡ true) ⊎ (is_among x names ≡ true) → is_among x (y ∷ more) ≡ true
+among_first x y names more rest (inl e) = either_left (same_name x y) (is_among x more) e
+among_first x y names more rest (inr a) = either_right (same_name x y) (is_among x more) (rest a)
+
+pub among_earlier : (x : Bytes) (us vs : List Var) → is_among x (names_of us) ≡ true → is_among x (names_of (us ++ vs)) ≡ true
+among_earlier x [] vs a = absurd (true≢false (sym a))
+among_earlier x (u ∷ us) vs a = among_first x u.name (names_of us) (names_of (us ++ vs)) (among_earlier x us vs) (either_cases (same_name x u.name) (is_among x (names_of us)) a)
