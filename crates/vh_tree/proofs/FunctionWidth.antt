@@ -32,7 +32,7 @@ none_left : (ns : List ℕ) → length ns ≡ 0 → [] ≡ ns
 none_left [] e = refl
 none_left (n ∷ ns) e = absurd (omega arith)
 
-gives_bare : (shape : Option Shape) (call : List Bits → Bits) → GivesWidth shape 0 call → HasWidth (result_of shape) (call [])
+pub gives_bare : (shape : Option Shape) (call : List Bits → Bits) → GivesWidth shape 0 call → HasWidth (result_of shape) (call [])
 gives_bare None call g = absurd g
 gives_bare (Some shape) call g = g.1 [] (none_left shape.params g.0)
 

@@ -11,3 +11,4 @@ pub mod Stores
 pub mod StmtWidth
 pub mod Copies
 pub mod FunctionWidth
+pub mod DesignWidth

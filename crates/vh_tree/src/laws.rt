@@ -8,6 +8,7 @@ ghost use Rattle.vh_tree.specs.declared.expr.VExpr.TheVariants.{Name, Slice, Lit
 ghost use Rattle.vh_tree.specs.declared.stmt.VStmt.{VStmt};
 ghost use Rattle.vh_tree.specs.declared.stmt.VStmt.TheVariants.{Assign, If};
 ghost use Rattle.vh_tree.specs.declared.stmt.Branch.{Branch};
+ghost use Rattle.vh_tree.specs.Widths.{ExprWidthLaw, FunctionWidthLaw, ProcessWidthLaw};
 ghost use Rattle.vh_tree.specs.Laws.{OneOrderLaw, EveryOrderLaw, SettledInEveryOrderLaw, BenchInEveryOrderLaw, TextOrderLaw, SettledLaw, FirstBrokenLaw};
 
 /// The order in which processes run makes no difference where the static rules hold: to one delta cycle, to the
@@ -45,4 +46,13 @@ pub fn statement_law<S>()
     ensures assign { (x : Bytes) (e : VExpr) (w : World S) (s : S) → stmt_of S (Assign x e) w s ≡ w.assign x (expr_of e (w.scope s)) s }
     ensures choice { (branches : List Branch) (other : List VStmt) (w : World S) (s : S) → stmt_of S (If branches other) w s ≡ first_taken S (map (branch_of S) branches) (stmts_of S other) w s }
     ensures branch { (b : Branch) → branch_of S b ≡ (λ w s. list_all (λ t. test_holds S t w s) b.tests, stmts_of S b.body) }
+{}
+
+/// Where the static rules hold, the value of an expression has its static width: in any scope that keeps to widths;
+/// of a function of a static design, of arguments of its parameters' widths; and in a process, over ports and signals
+/// of theirs.
+pub fn width_law()
+    ensures expression { ExprWidthLaw }
+    ensures function { FunctionWidthLaw }
+    ensures process { ProcessWidthLaw }
 {}

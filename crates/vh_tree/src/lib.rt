@@ -19,7 +19,9 @@ pub use design::{Design, Item};
 pub use expr::VExpr;
 pub use function::{Function, Var};
 pub use ident::Ident;
-pub use laws::{expression_law, first_broken_law, order_law, settling_law, statement_law};
+pub use laws::{
+    expression_law, first_broken_law, order_law, settling_law, statement_law, width_law,
+};
 pub use process::Process;
 pub use stmt::{Branch, Test, VStmt};
 pub use wire::{Held, State, Wire};
