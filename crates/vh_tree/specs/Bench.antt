@@ -5,6 +5,7 @@ use Rattle.vh_tree.specs.DeltaCycle.{Wires, Orders, AreOrders, put, seen, seen_a
 use Rattle.rw_base.specs.declared.bit.Bit9.TheVariants.{U, Zero, One}
 use Rattle.vh_tree.specs.declared.design.Design.{Design}
 use Rattle.vh_tree.specs.declared.wire.Wire.{Wire}
+use Rattle.vh_tree.specs.declared.wire.Settled.{Settled}
 use Rattle.vh_tree.specs.declared.wire.State.{State}
 use Rattle.vh_tree.specs.declared.design.Item.{Item}
 use Rattle.vh_tree.specs.declared.design.Item.TheVariants.{Signal, Function as Declared}
@@ -44,11 +45,6 @@ given input s = set_port (codes "rst") (Zero ∷ []) (set_port (codes "clk") (Ze
 -- what is read
 abbrev pub outp_of : State → Bits
 outp_of s = seen_at (seen s.wires) (codes "outp")
-
--- a quiet state, and how many delta cycles led to it
-pub record Settled : Type 0 where
-  pub state : State
-  pub count : ℕ
 
 -- one delta cycle more
 abbrev pub one_later : Option Settled → Option Settled

@@ -7,6 +7,7 @@ use Rattle.rw_base.specs.declared.bit.Bit9.TheVariants.{One}
 use Rattle.vh_tree.specs.declared.process.Process.{Process}
 use Rattle.vh_tree.specs.declared.design.Design.{Design}
 use Rattle.vh_tree.specs.declared.wire.Wire.{Wire}
+use Rattle.vh_tree.specs.declared.wire.Moment.{Moment}
 use Rattle.vh_tree.specs.declared.wire.State.{State}
 
 -- ports and signals
@@ -24,12 +25,6 @@ moved w = record { name = w.name; now = unwrap_or w.pending w.now; pending = Non
 -- the value of a port or a signal; nothing where there is none of this name
 abbrev pub seen_at : Store → Bytes → Bits
 seen_at store x = value_in store (λ _ _. []) x
-
--- one cycle's moment: whether it is the start cycle, and the values before it and in it
-pub record Moment : Type 0 where
-  pub starting : Bool
-  pub before : Store
-  pub now : Store
 
 -- an event: the value changed; in the start cycle nothing has one
 abbrev pub has_event : Moment → Bytes → Bool

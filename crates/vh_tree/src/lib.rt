@@ -24,4 +24,4 @@ pub use laws::{
 };
 pub use process::Process;
 pub use stmt::{Branch, Test, VStmt};
-pub use wire::{Held, State, Wire};
+pub use wire::{Held, Moment, Settled, State, Wire};

@@ -27,3 +27,19 @@ pub struct State {
     pub wires: Items<Wire>,
     pub starting: bool,
 }
+
+/// What the processes of one delta cycle see: whether it is the start cycle, and the values of the ports and the
+/// signals before it and in it.
+#[derive(Drop)]
+pub struct Moment {
+    pub starting: bool,
+    pub before: Items<Held>,
+    pub now: Items<Held>,
+}
+
+/// A quiet state, and the count of the delta cycles that led to it.
+#[derive(Drop)]
+pub struct Settled {
+    pub state: State,
+    pub count: u32,
+}
