@@ -1,0 +1,3 @@
+-- Lemmas on the list that an assignment leaves, and on calls.
+pub mod Stored
+pub mod Calls
