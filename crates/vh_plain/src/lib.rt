@@ -9,6 +9,7 @@ mod bits;
 mod expr;
 mod fail;
 mod function;
+mod process;
 
 pub use expr::{append_call, append_function, append_value};
 pub use fail::PlainFail;

@@ -12,7 +12,7 @@ use Rattle.vh_tree.specs.declared.design.Item.TheVariants.{Signal, Function as D
 
 -- a port or a signal before the start: all 'U'
 abbrev pub fresh : Bytes → ℕ → Wire
-fresh name width = record { name = name; now = replicate width U; pending = None }
+fresh name width = record { name = name; value = replicate width U; pending = None }
 
 -- the signals of the items
 abbrev pub signals_of : List Item → Wires

@@ -16,7 +16,7 @@ pub struct Held {
 #[derive(Drop)]
 pub struct Wire {
     pub name: Ident,
-    pub now: Items<Bit9>,
+    pub value: Items<Bit9>,
     pub pending: Option<Items<Bit9>>,
 }
 
@@ -34,7 +34,7 @@ pub struct State {
 pub struct Moment {
     pub starting: bool,
     pub before: Items<Held>,
-    pub now: Items<Held>,
+    pub current: Items<Held>,
 }
 
 /// A quiet state, and the count of the delta cycles that led to it.
