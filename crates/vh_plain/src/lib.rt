@@ -6,10 +6,12 @@
 #![tactic(auto)]
 
 mod bits;
+mod delta;
 mod expr;
 mod fail;
 mod function;
 mod process;
 
+pub use delta::{next_state, quiet, settle};
 pub use expr::{append_call, append_function, append_value};
 pub use fail::PlainFail;
