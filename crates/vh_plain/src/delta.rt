@@ -10,7 +10,8 @@ use sqlite_items::Items;
 use std::alloc::Global;
 use vh_tree::{Design, Held, Item, Moment, Process, Settled, State, Wire};
 
-fn seen_of(alloc: Global, wires: &[Wire]) -> Result<Items<Held>, PlainFail>
+/// The values of ports and signals in one moment.
+pub fn seen_of(alloc: Global, wires: &[Wire]) -> Result<Items<Held>, PlainFail>
     ensures { IfOk result (λ store. store ≡ seen wires.now) }
 {
     let mut store = Vec::new(alloc);

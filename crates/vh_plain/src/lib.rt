@@ -6,12 +6,17 @@
 #![tactic(auto)]
 
 mod bits;
+mod changes;
 mod delta;
 mod expr;
 mod fail;
 mod function;
 mod process;
 
+pub use changes::{bench, reading, risen, start, with_input};
 pub use delta::{next_state, quiet, settle};
 pub use expr::{append_call, append_function, append_value};
 pub use fail::PlainFail;
+
+#[cfg(test)]
+mod tests;
