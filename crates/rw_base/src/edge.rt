@@ -71,6 +71,7 @@ fn write_all<W: Write>(writer: &mut W, bytes: &[u8], faults: &mut u64) -> Result
 }
 
 /// The system's files, each under its path.
+#[derive(Drop)]
 pub struct FileStore<'a, R: Files> {
     rt: &'a R,
     load_faults: u64,
@@ -115,6 +116,7 @@ impl<R: Files> Store for FileStore<'_, R> {
 }
 
 /// A sink that passes all bytes on to a writer, and flushes it after each put.
+#[derive(Drop)]
 pub struct StreamSink<W: Write> {
     writer: W,
     faults: u64,

@@ -27,3 +27,9 @@ pub mod ReadWhole
 pub mod Made
 pub mod MadeStmts
 pub mod MadeDesign
+pub mod ExprWidth
+pub mod Stores
+pub mod StmtWidth
+pub mod Copies
+pub mod FunctionWidth
+pub mod DesignWidth

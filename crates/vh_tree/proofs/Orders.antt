@@ -5,9 +5,10 @@ use Rattle.std.specs.List.Sorted.{IsPermutation}
 use Rattle.std.proofs.lemmas.List.Sorted.{IsPermutation-keeps}
 use Rattle.vh_tree.specs.Bits.{Bytes, Bits, same_name}
 use Rattle.vh_tree.specs.Functions.{Calls, World, stmts_of, calls_of}
-use Rattle.vh_tree.specs.DeltaCycle.{Wires, Moment, IsOrder, put, moved, moment_of, process_world, process_effect, all_effects, delta_cycle, runs}
+use Rattle.vh_tree.specs.DeltaCycle.{Wires, IsOrder, put, moved, moment_of, process_world, process_effect, all_effects, delta_cycle, runs}
 use Rattle.vh_tree.specs.StaticRules.{drives, breaks_names, are_distinct, item_names, function_names_well, functions_of, process_names_well, driven_names, IsStatic}
 use Rattle.vh_tree.specs.declared.wire.Wire.{Wire}
+use Rattle.vh_tree.specs.declared.wire.Moment.{Moment}
 use Rattle.vh_tree.specs.declared.wire.State.{State}
 use Rattle.vh_tree.specs.declared.process.Process.{Process}
 use Rattle.vh_tree.specs.declared.design.Design.{Design}

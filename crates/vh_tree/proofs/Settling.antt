@@ -3,9 +3,10 @@ use Rattle.std.proofs.Common.{◌≡◌, ℕ, zero, suc, ◌+◌, ◌≤◌, Lis
 use Rattle.std.proofs.lemmas.List.Sorted.{IsPermutation-refl}
 use Rattle.vh_tree.specs.Bits.{Bits}
 use Rattle.vh_tree.specs.DeltaCycle.{Orders, AreOrders, IsOrder, delta_cycle, cycles, is_quiet}
-use Rattle.vh_tree.specs.Bench.{Settled, settled, later, one_later, Schedule, IsSchedule, text_schedule, or_change, on_ok, clocked, edge, given, outp_of, read_first, readings_from, bench_readings, start_of}
+use Rattle.vh_tree.specs.Bench.{settled, later, one_later, Schedule, IsSchedule, text_schedule, or_change, on_ok, clocked, edge, given, outp_of, read_first, readings_from, bench_readings, start_of}
 use Rattle.vh_tree.specs.StaticRules.{IsStatic}
 use Rattle.vh_tree.specs.Laws.{IsFirstQuiet}
+use Rattle.vh_tree.specs.declared.wire.Settled.{Settled}
 use Rattle.vh_tree.specs.declared.wire.State.{State}
 use Rattle.vh_tree.specs.declared.process.Process.{Process}
 use Rattle.vh_tree.specs.declared.design.Design.{Design}

@@ -43,3 +43,14 @@ among_case f x y names h rest (inr a) = rest a
 pub among_keeps : (f : Bytes → Bool) (x : Bytes) (names : List Bytes) → list_all f names ≡ true → is_among x names ≡ true → f x ≡ true
 among_keeps f x [] h a = absurd (true≢false (sym a))
 among_keeps f x (y ∷ names) h a = among_case f x y names h (among_keeps f x names (both_right (f y) (list_all f names) h)) (either_cases (same_name x y) (is_among x names) a)
+
+pub name_turned : (x y : Bytes) → same_name x y ≡ true → same_name y x ≡ true
+name_turned x y h = subst (λ z. same_name z x ≡ true) (name_same x y h) (name_self x)
+
+pub not_true : (b : Bool) → not b ≡ true → b ≡ false
+not_true true h = absurd (true≢false (sym h))
+not_true false h = refl
+
+pub both_so : (a b : Bool) → a ≡ true → b ≡ true → (a && b) ≡ true
+both_so true b h k = k
+both_so false b h k = h

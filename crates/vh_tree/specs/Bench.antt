@@ -5,13 +5,14 @@ use Rattle.vh_tree.specs.DeltaCycle.{Wires, Orders, AreOrders, put, seen, seen_a
 use Rattle.rw_base.specs.declared.bit.Bit9.TheVariants.{U, Zero, One}
 use Rattle.vh_tree.specs.declared.design.Design.{Design}
 use Rattle.vh_tree.specs.declared.wire.Wire.{Wire}
+use Rattle.vh_tree.specs.declared.wire.Settled.{Settled}
 use Rattle.vh_tree.specs.declared.wire.State.{State}
 use Rattle.vh_tree.specs.declared.design.Item.{Item}
 use Rattle.vh_tree.specs.declared.design.Item.TheVariants.{Signal, Function as Declared}
 
 -- a port or a signal before the start: all 'U'
 abbrev pub fresh : Bytes → ℕ → Wire
-fresh name width = record { name = name; now = replicate width U; pending = None }
+fresh name width = record { name = name; value = replicate width U; pending = None }
 
 -- the signals of the items
 abbrev pub signals_of : List Item → Wires
@@ -44,11 +45,6 @@ given input s = set_port (codes "rst") (Zero ∷ []) (set_port (codes "clk") (Ze
 -- what is read
 abbrev pub outp_of : State → Bits
 outp_of s = seen_at (seen s.wires) (codes "outp")
-
--- a quiet state, and how many delta cycles led to it
-pub record Settled : Type 0 where
-  pub state : State
-  pub count : ℕ
 
 -- one delta cycle more
 abbrev pub one_later : Option Settled → Option Settled

@@ -7,6 +7,7 @@ use Rattle.rw_base.specs.declared.bit.Bit9.TheVariants.{One}
 use Rattle.vh_tree.specs.declared.process.Process.{Process}
 use Rattle.vh_tree.specs.declared.design.Design.{Design}
 use Rattle.vh_tree.specs.declared.wire.Wire.{Wire}
+use Rattle.vh_tree.specs.declared.wire.Moment.{Moment}
 use Rattle.vh_tree.specs.declared.wire.State.{State}
 
 -- ports and signals
@@ -15,25 +16,19 @@ Wires = List Wire
 
 -- their values in one moment
 abbrev pub seen : Wires → Store
-seen ws = map (λ w. held w.name w.now) ws
+seen ws = map (λ w. held w.name w.value) ws
 
 -- a pending value becomes current
 abbrev pub moved : Wire → Wire
-moved w = record { name = w.name; now = unwrap_or w.pending w.now; pending = None }
+moved w = record { name = w.name; value = unwrap_or w.pending w.value; pending = None }
 
 -- the value of a port or a signal; nothing where there is none of this name
 abbrev pub seen_at : Store → Bytes → Bits
 seen_at store x = value_in store (λ _ _. []) x
 
--- one cycle's moment: whether it is the start cycle, and the values before it and in it
-pub record Moment : Type 0 where
-  pub starting : Bool
-  pub before : Store
-  pub now : Store
-
 -- an event: the value changed; in the start cycle nothing has one
 abbrev pub has_event : Moment → Bytes → Bool
-has_event m x = not m.starting && not (same_bits (seen_at m.before x) (seen_at m.now x))
+has_event m x = not m.starting && not (same_bits (seen_at m.before x) (seen_at m.current x))
 
 -- from '0' to '1', as one bit
 abbrev pub rises : Bits → Bits → Bool
@@ -42,20 +37,20 @@ rises last now = false
 
 -- `rising_edge ( clk )`: an event on `clk`, which rises
 abbrev pub clock_rises : Moment → Bool
-clock_rises m = has_event m (codes "clk") && rises (seen_at m.before (codes "clk")) (seen_at m.now (codes "clk"))
+clock_rises m = has_event m (codes "clk") && rises (seen_at m.before (codes "clk")) (seen_at m.current (codes "clk"))
 
 -- an assignment to a signal or a port becomes pending, in place of an earlier one
 abbrev pub put : Bytes → Bits → Wires → Wires
 put x v [] = []
-put x v (w ∷ ws) = if same_name w.name x then record { name = w.name; now = w.now; pending = Some v } ∷ ws else w ∷ put x v ws
+put x v (w ∷ ws) = if same_name w.name x then record { name = w.name; value = w.value; pending = Some v } ∷ ws else w ∷ put x v ws
 
 -- the statements of a process read the moment's values alone
 abbrev pub process_world : Calls → Moment → World Wires
 process_world calls m = record {
-  scope = λ _. scope_in calls m.now;
+  scope = λ _. scope_in calls m.current;
   assign = put;
   rising = clock_rises m;
-  reset = same_bits (seen_at m.now (codes "rst")) (One ∷ []);
+  reset = same_bits (seen_at m.current (codes "rst")) (One ∷ []);
 }
 
 -- a process runs where a name of its sensitivity list has an event; in the start cycle each runs
@@ -73,7 +68,7 @@ all_effects calls m (p ∷ ps) ws = all_effects calls m ps (process_effect calls
 
 -- the moment of the cycle that follows a state
 abbrev pub moment_of : State → Moment
-moment_of s = record { starting = s.starting; before = seen s.wires; now = seen (map moved s.wires) }
+moment_of s = record { starting = s.starting; before = seen s.wires; current = seen (map moved s.wires) }
 
 -- one delta cycle, in which the processes that run do so in this order
 abbrev pub delta_cycle : Design → List Process → State → State

@@ -2,8 +2,9 @@
 use Rattle.std.specs.Prelude.{◌≡◌, ℕ, ◌<◌, ◌≤◌, ◌↔◌, List, true, false, None, MatchOption}
 use Rattle.vh_tree.specs.Bits.{Bits}
 use Rattle.vh_tree.specs.DeltaCycle.{Orders, AreOrders, IsOrder, delta_cycle, cycles, is_quiet}
-use Rattle.vh_tree.specs.Bench.{Schedule, IsSchedule, Settled, settled, text_schedule, bench_readings}
+use Rattle.vh_tree.specs.Bench.{Schedule, IsSchedule, settled, text_schedule, bench_readings}
 use Rattle.vh_tree.specs.StaticRules.{IsStatic, first_broken}
+use Rattle.vh_tree.specs.declared.wire.Settled.{Settled}
 use Rattle.vh_tree.specs.declared.wire.State.{State}
 use Rattle.vh_tree.specs.declared.process.Process.{Process}
 use Rattle.vh_tree.specs.declared.design.Design.{Design}

@@ -14,6 +14,7 @@ pub mod StaticRules
 -- Laws of these words, which proofs above cite.
 pub mod Equations
 pub mod Induction
+pub mod Widths
 pub mod Laws
 -- What functions inside promise each other, and laws that callers cite.
 pub mod Scan

@@ -21,7 +21,9 @@ pub use design::{Design, Item};
 pub use expr::VExpr;
 pub use function::{Function, Var};
 pub use ident::Ident;
-pub use laws::{first_broken_law, order_law, settling_law};
+pub use laws::{
+    expression_law, first_broken_law, order_law, settling_law, statement_law, width_law,
+};
 pub use process::Process;
 pub use stmt::{Branch, Test, VStmt};
 pub use token::{Mark, Side, Token};
@@ -36,3 +38,4 @@ pub use token::{Mark, Side, Token};
 
 #[cfg(test)]
 mod tests;
+pub use wire::{Held, Moment, Settled, State, Wire};

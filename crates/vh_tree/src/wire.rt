@@ -16,7 +16,7 @@ pub struct Held {
 #[derive(Drop)]
 pub struct Wire {
     pub name: Ident,
-    pub now: Items<Bit9>,
+    pub value: Items<Bit9>,
     pub pending: Option<Items<Bit9>>,
 }
 
@@ -26,4 +26,20 @@ pub struct Wire {
 pub struct State {
     pub wires: Items<Wire>,
     pub starting: bool,
+}
+
+/// What the processes of one delta cycle see: whether it is the start cycle, and the values of the ports and the
+/// signals before it and in it.
+#[derive(Drop)]
+pub struct Moment {
+    pub starting: bool,
+    pub before: Items<Held>,
+    pub current: Items<Held>,
+}
+
+/// A quiet state, and the count of the delta cycles that led to it.
+#[derive(Drop)]
+pub struct Settled {
+    pub state: State,
+    pub count: u32,
 }

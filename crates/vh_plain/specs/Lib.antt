@@ -1,0 +1,1 @@
+-- This crate has no words of its own: its contracts speak in those of the designs.
