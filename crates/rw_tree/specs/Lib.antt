@@ -1,2 +1,5 @@
 -- The words that public contracts rest on.
+pub mod Types
+pub mod Patterns
+pub mod Trees
 pub mod Passes

@@ -7,6 +7,7 @@
 #![tactic(auto)]
 
 mod clause;
+mod copy;
 mod decl;
 mod expr;
 mod pass;
