@@ -24,3 +24,6 @@ pub use pattern::Pat;
 pub use prelude::prelude_decls;
 pub use program::{Program, Typed};
 pub use types::{Kind, TyNode, Written};
+
+#[cfg(test)]
+mod tests;
