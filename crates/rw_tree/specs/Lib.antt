@@ -2,6 +2,7 @@
 pub mod Types
 pub mod Patterns
 pub mod Trees
+pub mod Declarations
 pub mod PreludeText
 pub mod Passes
 -- What functions inside promise each other.
