@@ -16,7 +16,6 @@ use Rattle.rw_tree.specs.declared.clause.Local.TheOpen.{Local-F, Rhs-F, Stmt-F, 
 use Rattle.rw_tree.specs.declared.clause.Local.TheFolds.{fold-roll-Local, fold-roll-Rhs, fold-roll-Stmt, fold-roll-Expr, fold_out-Alt, fold_out-Guard}
 use Rattle.rw_tree.specs.declared.clause.Alt.{Alt}
 use Rattle.rw_tree.specs.declared.clause.Guard.{Guard}
-use Rattle.rw_tree.specs.declared.clause.Rhs.{Rhs}
 use Rattle.rw_tree.specs.declared.clause.Rhs.TheVariants as rhs
 use Rattle.rw_tree.specs.declared.clause.Stmt.{Stmt}
 use Rattle.rw_tree.specs.declared.clause.Stmt.TheVariants as stmt
@@ -108,6 +107,7 @@ module _ {A X : Type 0} (see : A → X) where
 
   pub statement-Run : (a : A) (b : Expr A) → statement see (stmt.Run a b) ≡ tree.run_statement (see a) (expression see b)
   statement-Run a b = ap (statement see) (sym (stmt.rolls-Run a b)) ∙ fold-roll-Stmt A (LocalBinding X) (RightSide X) (Statement X) (Expression X) (Alternative X) (GuardedBody X) (local_step see) (rhs_step see) (stmt_step see) (expr_step see) (alt_step see) (guard_step see) (Stmt-F.Run a b)
+
   pub alternative-parts : (row : Alt A) → alternative_of see row ≡ tree.alternative (see row.at) (patterns see row.pats) (right_side see row.rhs) (binding_parts (map (local_binding see) row.wheres))
   alternative-parts row = fold_out-Alt A (LocalBinding X) (RightSide X) (Statement X) (Expression X) (Alternative X) (GuardedBody X) (local_step see) (rhs_step see) (stmt_step see) (expr_step see) (alt_step see) (guard_step see) row
 

@@ -1,7 +1,6 @@
 -- Declarations and programs as plain data (Haskell 2010 Report, chapters 4 and 5).
 use Rattle.std.specs.Prelude.{ℕ, List, map}
 use Rattle.rw_tree.specs.declared.decl.Constructor.{Constructor}
-use Rattle.rw_tree.specs.declared.decl.DataDecl.{DataDecl}
 use Rattle.rw_tree.specs.declared.decl.Side.{Side}
 use Rattle.rw_tree.specs.declared.decl.Decl.{Decl}
 use Rattle.rw_tree.specs.declared.decl.Decl.TheVariants.{Import, Data, Fixity, Sig, Fun}

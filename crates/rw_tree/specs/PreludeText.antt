@@ -10,7 +10,6 @@ use Rattle.rw_tree.specs.declared.expr.Expr.{Expr}
 use Rattle.rw_tree.specs.declared.expr.Expr.TheVariants as expr
 use Rattle.rw_tree.specs.declared.clause.Alt.{Alt}
 use Rattle.rw_tree.specs.declared.decl.Constructor.{Constructor}
-use Rattle.rw_tree.specs.declared.decl.Side.{Side}
 use Rattle.rw_tree.specs.declared.decl.Side.TheVariants.{Left, Right}
 use Rattle.rw_tree.specs.declared.decl.Decl.{Decl}
 use Rattle.rw_tree.specs.PreludeTrees.{nowhere, plain_clause, constructor_named, data_named, strength_of, function_named}

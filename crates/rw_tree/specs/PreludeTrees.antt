@@ -1,19 +1,14 @@
 -- The declarations that stand before those of every source (Haskell 2010 Report, chapter 9, in this project's profile).
-use Rattle.std.specs.Prelude.{◌≡◌, ℕ, List, [], ◌∷◌, ◌++◌, Result, IfOk, codes}
+use Rattle.std.specs.Prelude.{◌≡◌, ℕ, List, [], ◌∷◌, Result, IfOk}
 use Rattle.rw_base.specs.declared.place.Span.{Span}
 use Rattle.rw_base.specs.declared.fail.OutOfMemory.{OutOfMemory}
 use Rattle.rw_tree.specs.declared.types.Written.{Written}
-use Rattle.rw_tree.specs.declared.types.Written.TheVariants as type
 use Rattle.rw_tree.specs.declared.pattern.Pat.{Pat}
-use Rattle.rw_tree.specs.declared.pattern.Pat.TheVariants as pat
 use Rattle.rw_tree.specs.declared.expr.Expr.{Expr}
-use Rattle.rw_tree.specs.declared.expr.Expr.TheVariants as expr
 use Rattle.rw_tree.specs.declared.clause.Alt.{Alt}
 use Rattle.rw_tree.specs.declared.clause.Rhs.TheVariants as rhs
 use Rattle.rw_tree.specs.declared.decl.Constructor.{Constructor}
-use Rattle.rw_tree.specs.declared.decl.DataDecl.{DataDecl}
 use Rattle.rw_tree.specs.declared.decl.Side.{Side}
-use Rattle.rw_tree.specs.declared.decl.Side.TheVariants.{Left, Right}
 use Rattle.rw_tree.specs.declared.decl.Decl.{Decl}
 use Rattle.rw_tree.specs.declared.decl.Decl.TheVariants as decl
 
