@@ -7,10 +7,12 @@
 #![tactic(auto)]
 
 mod clause;
+mod copy;
 mod decl;
 mod expr;
 mod pass;
 mod pattern;
+mod prelude;
 mod program;
 mod types;
 
@@ -19,5 +21,9 @@ pub use decl::{Constructor, DataDecl, Decl, Side};
 pub use expr::Expr;
 pub use pass::{Denotes, Pass, Then};
 pub use pattern::Pat;
+pub use prelude::prelude_decls;
 pub use program::{Program, Typed};
 pub use types::{Kind, TyNode, Written};
+
+#[cfg(test)]
+mod tests;

@@ -26,6 +26,7 @@ pub trait Denotes {
 /// nothing larger, and gives what the next pass needs. The only refusal is want of memory.
 pub trait Pass {
     type In: Denotes;
+
     type Out: Denotes + Drop;
 
     /// The representation that this pass makes of `input`, which is fit.
@@ -47,6 +48,7 @@ pub struct Then<P, Q> {
 
 impl<P: Pass, Q: Pass<In = P::Out>> Pass for Then<P, Q> {
     type In = P::In;
+
     type Out = Q::Out;
 
     fn run(&self, alloc: Global, input: &P::In) -> Result<Q::Out, OutOfMemory> {

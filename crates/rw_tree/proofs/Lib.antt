@@ -1,0 +1,3 @@
+-- Lemmas: the plain form of each variant, which callers cite, and lists that a loop builds.
+pub mod Plains
+mod Lists
