@@ -1,7 +1,8 @@
 //! The designs of the VHDL subset: what a text spells, what the compiler makes, and what is simulated.
 //!
 //! It leaves printing, reading and simulating to the crates above, which see a `Design` and its definitions
-//! alone. Begin with `design.rt`, then `expr.rt`.
+//! alone. Begin with `design.rt`, then `expr.rt`; the laws of what texts spell stand in `law.rt`, and those of what
+//! designs mean in `laws.rt`.
 #![tactic(auto)]
 
 mod clock;
@@ -9,8 +10,8 @@ mod design;
 mod expr;
 mod function;
 mod ident;
-mod laws;
 mod law;
+mod laws;
 mod process;
 mod stmt;
 mod token;
@@ -21,21 +22,18 @@ pub use design::{Design, Item};
 pub use expr::VExpr;
 pub use function::{Function, Var};
 pub use ident::Ident;
+pub use law::{
+    canonical_text_spells, designs_are_read, every_text_is_judged, one_design_for_a_text,
+    spellable_designs_are_spelled, spelled_designs_are_spellable, tokens_are_scanned,
+    tokens_of_expressions, tokens_of_statements,
+};
 pub use laws::{
     expression_law, first_broken_law, order_law, settling_law, statement_law, width_law,
 };
 pub use process::Process;
 pub use stmt::{Branch, Test, VStmt};
 pub use token::{Mark, Side, Token};
-pub use wire::{Held, State, Wire};
-pub use law::{
-    canonical_text_spells, designs_are_read, every_text_is_judged, one_design_for_a_text,
-    spellable_designs_are_spelled, tokens_are_scanned, tokens_of_expressions, tokens_of_statements,
-};
-pub use process::Process;
-pub use stmt::{Branch, Test, VStmt};
-pub use token::{Mark, Side, Token};
+pub use wire::{Held, Moment, Settled, State, Wire};
 
 #[cfg(test)]
 mod tests;
-pub use wire::{Held, Moment, Settled, State, Wire};
