@@ -19,3 +19,4 @@ pub mod ReadWhole
 pub mod Made
 pub mod MadeStmts
 pub mod MadeDesign
+pub mod Fitted

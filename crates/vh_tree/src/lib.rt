@@ -19,7 +19,8 @@ pub use function::{Function, Var};
 pub use ident::Ident;
 pub use law::{
     canonical_text_spells, designs_are_read, every_text_is_judged, one_design_for_a_text,
-    spellable_designs_are_spelled, tokens_are_scanned, tokens_of_expressions, tokens_of_statements,
+    spellable_designs_are_spelled, spelled_designs_are_spellable, tokens_are_scanned,
+    tokens_of_expressions, tokens_of_statements,
 };
 pub use process::Process;
 pub use stmt::{Branch, Test, VStmt};
