@@ -56,7 +56,7 @@ module _ (keyword : Mark) where
   var_behind : (ts : List Token) (v : Var) (rest : List Token) → AllTokens ts → IsVar keyword ts v rest → AllTokens rest
   var_behind _ _ _ h (a_var name width ts rest d) = let k = vec_again.behind ts width (t.Mark m.Semicolon ∷ rest) h.1.1.1 d in k.1
 
-  var_again : Again (var_tokens keyword) (IsVar keyword)
+  pub var_again : Again (var_tokens keyword) (IsVar keyword)
   var_again = record { again = var_once; front = var_front; behind = var_behind }
 
 param_once : (ts : List Token) (x : List ℕ) (rest later : List Token) → AllTokens ts → IsParam ts x rest → IsParam (param_tokens x ++ later) x later
@@ -65,7 +65,7 @@ param_once _ _ _ later h (a_param name rest) = subst (λ z. IsParam (z ∷ t.Mar
 param_front : (ts : List Token) (x : List ℕ) (rest : List Token) → AllTokens ts → IsParam ts x rest → AllTokens (param_tokens x)
 param_front _ _ _ h (a_param name rest) = (subst IsToken (id_is name h.0) h.0, (mark_token m.Colon, (mark_token m.StdLogicVector, tt)))
 
-param_behind : (ts : List Token) (x : List ℕ) (rest : List Token) → AllTokens ts → IsParam ts x rest → AllTokens rest
+pub param_behind : (ts : List Token) (x : List ℕ) (rest : List Token) → AllTokens ts → IsParam ts x rest → AllTokens rest
 param_behind _ _ _ h (a_param name rest) = h.1.1.1
 
 param_list : Again (λ (xs : List (List ℕ)). separated m.Semicolon (map param_tokens xs)) (IsSeparated m.Semicolon IsParam)
@@ -94,10 +94,10 @@ params_behind : (ts : List Token) (xs : List (List ℕ)) (rest : List Token) →
 params_behind _ _ _ h (no_params ts) = h
 params_behind _ _ _ h (some_params ts rest names d) = let k = param_list.behind ts names (t.Mark m.Closes ∷ rest) h.1 d in k.1
 
-params_again : Again params_tokens IsParams
+pub params_again : Again params_tokens IsParams
 params_again = record { again = params_once; front = params_front; behind = params_behind }
 
-vars_again : Again (λ (vs : List Var). joined (map (var_tokens m.Variable) vs)) (IsMany (IsVar m.Variable))
+pub vars_again : Again (λ (vs : List Var). joined (map (var_tokens m.Variable) vs)) (IsMany (IsVar m.Variable))
 vars_again = let all = many_again (var_tokens m.Variable) (IsVar m.Variable) (var_again m.Variable) in record { again = all.again; front = all.front; behind = all.behind }
 
 -- ---- functions

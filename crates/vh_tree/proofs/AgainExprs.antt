@@ -43,7 +43,7 @@ module _ (Args : List Token → List VExpr → List Token → Type 0) (args : Ag
   pub ref_again : Again expr_tokens (IsRef Args)
   ref_again = record { again = ref_once; front = ref_front; behind = ref_behind }
 
-  term_again : Again expr_tokens (IsTerm Args)
+  pub term_again : Again expr_tokens (IsTerm Args)
   term_again = record { again = again; front = front; behind = behind }
     where
       again : (ts : List Token) (e : VExpr) (rest later : List Token) → AllTokens ts → IsTerm Args ts e rest → IsTerm Args (expr_tokens e ++ later) e later

@@ -39,7 +39,7 @@ module _ (Args : List Token → List VExpr → List Token → Type 0) (refs : Ag
   test_front _ _ _ h (rising rest) = (mark_token m.RisingEdge, (mark_token m.Opens, (mark_token m.Clk, (mark_token m.Closes, tt))))
   test_front _ _ _ h (reset rest) = (mark_token m.Rst, (mark_token m.Equal, (mark_token m.High, tt)))
 
-  test_behind : (ts : List Token) (e : Test) (rest : List Token) → AllTokens ts → IsTest Args ts e rest → AllTokens rest
+  pub test_behind : (ts : List Token) (e : Test) (rest : List Token) → AllTokens ts → IsTest Args ts e rest → AllTokens rest
   test_behind _ _ _ h (equal ts rest e bits d) = let k = refs.behind ts e (t.Mark m.Equal ∷ t.Bits bits ∷ rest) h d in k.1.1
   test_behind _ _ _ h (rising rest) = h.1.1.1.1
   test_behind _ _ _ h (reset rest) = h.1.1.1
@@ -67,13 +67,13 @@ module _ (at : Side) (Args : List Token → List VExpr → List Token → Type 0
       subst AllTokens (sym (tokens_branch at tests body))
       (all_both (separated m.And (map test_tokens tests)) (t.Mark m.Then ∷ stmts_tokens at body) (all.front ts tests (t.Mark m.Then ∷ mid) h d) (mark_token m.Then, stmts.front mid body rest f.1 k))
 
-  branch_behind : (ts : List Token) (b : Branch) (rest : List Token) → AllTokens ts → IsBranch Args Stmts ts b rest → AllTokens rest
+  pub branch_behind : (ts : List Token) (b : Branch) (rest : List Token) → AllTokens ts → IsBranch Args Stmts ts b rest → AllTokens rest
   branch_behind _ _ _ h (a_branch ts mid rest tests body d k) =
       let all = tests_again Args refs in
       let f = all.behind ts tests (t.Mark m.Then ∷ mid) h d in
       stmts.behind mid body rest f.1 k
 
-  branches_again : Again (λ (bs : List Branch). separated m.Elsif (map (branch_tokens at) bs)) (IsSeparated m.Elsif (IsBranch Args Stmts))
+  pub branches_again : Again (λ (bs : List Branch). separated m.Elsif (map (branch_tokens at) bs)) (IsSeparated m.Elsif (IsBranch Args Stmts))
   branches_again = separated_again (branch_tokens at) m.Elsif (IsBranch Args Stmts) (record { again = branch_once; front = branch_front; behind = branch_behind })
 
   -- an empty `else` is not written
@@ -93,7 +93,7 @@ module _ (at : Side) (Args : List Token → List VExpr → List Token → Type 0
   else_front (absent ts) h = tt
   else_front (present ts rest body d) h = else_all body (stmts.front ts body rest h.1 d)
 
-  else_behind : {ts : List Token} {body : List VStmt} {rest : List Token} → IsElse Stmts ts body rest → AllTokens ts → AllTokens rest
+  pub else_behind : {ts : List Token} {body : List VStmt} {rest : List Token} → IsElse Stmts ts body rest → AllTokens ts → AllTokens rest
   else_behind (absent ts) h = h
   else_behind (present ts rest body d) h = stmts.behind ts body rest h.1 d
 
@@ -156,7 +156,7 @@ module _ (at : Side) (Args : List Token → List VExpr → List Token → Type 0
 level_again : (at : Side) (n : ℕ) → Again (choice_tokens at) (IsChoiceAt at n) → Again (stmts_tokens at) (IsStmts at n)
 level_again at n choices = many_again (stmt_tokens at) (IsStmt at (IsArgs n) (IsChoiceAt at n)) (stmt_again at (IsArgs n) (exprs_again n) (IsChoiceAt at n) choices)
 
-choices_again : (at : Side) (n : ℕ) → Again (choice_tokens at) (IsChoiceAt at n)
+pub choices_again : (at : Side) (n : ℕ) → Again (choice_tokens at) (IsChoiceAt at n)
 choices_again at zero = record { again = λ ts p rest later h d. absurd d; front = λ ts p rest h d. absurd d; behind = λ ts p rest h d. absurd d }
 choices_again at (suc n) = let next = choice_again at (IsArgs n) (refs_again n) (IsStmts at n) (level_again at n (choices_again at n)) in record { again = next.again; front = next.front; behind = next.behind }
 

@@ -24,10 +24,10 @@ sensitive_once _ _ _ later h (a_sensitive x name rest e) = subst (λ z. IsSensit
 sensitive_front : (ts : List Token) (x : List ℕ) (rest : List Token) → AllTokens ts → IsSensitive ts x rest → AllTokens (name_token x ∷ [])
 sensitive_front _ _ _ h (a_sensitive x name rest e) = (subst IsToken (sensitive_is x name h.0 e) h.0, tt)
 
-sensitive_behind : (ts : List Token) (x : List ℕ) (rest : List Token) → AllTokens ts → IsSensitive ts x rest → AllTokens rest
+pub sensitive_behind : (ts : List Token) (x : List ℕ) (rest : List Token) → AllTokens ts → IsSensitive ts x rest → AllTokens rest
 sensitive_behind _ _ _ h (a_sensitive x name rest e) = h.1
 
-names_again : Again names_tokens (IsSeparated m.Comma IsSensitive)
+pub names_again : Again names_tokens (IsSeparated m.Comma IsSensitive)
 names_again =
     let all = separated_again (λ (x : List ℕ). name_token x ∷ []) m.Comma IsSensitive (record { again = sensitive_once; front = sensitive_front; behind = sensitive_behind }) in
     record { again = all.again; front = all.front; behind = all.behind }
@@ -72,17 +72,17 @@ module _ (levels : ℕ) where
         ),
       )
 
-  process_behind : (ts : List Token) (p : Process) (rest : List Token) → AllTokens ts → IsProcess levels ts p rest → AllTokens rest
+  pub process_behind : (ts : List Token) (p : Process) (rest : List Token) → AllTokens ts → IsProcess levels ts p rest → AllTokens rest
   process_behind _ _ _ h (a_process names body ts inside rest dn db) =
       let body_again = stmts_again side.Process levels in
       let hb = names_again.behind ts names (t.Mark m.Closes ∷ t.Mark m.Begin ∷ inside) h.1.1 dn in
       let k = body_again.behind inside body (t.Mark m.End ∷ t.Mark m.Process ∷ t.Mark m.Semicolon ∷ rest) hb.1.1 db in
       k.1.1.1
 
-  processes_again : Again (λ (ps : List Process). joined (map process_tokens ps)) (IsMany (IsProcess levels))
+  pub processes_again : Again (λ (ps : List Process). joined (map process_tokens ps)) (IsMany (IsProcess levels))
   processes_again = many_again process_tokens (IsProcess levels) (record { again = process_once; front = process_front; behind = process_behind })
 
-  items_again : Again (λ (xs : List Item). joined (map item_tokens xs)) (IsMany (IsItem levels))
+  pub items_again : Again (λ (xs : List Item). joined (map item_tokens xs)) (IsMany (IsItem levels))
   items_again = many_again item_tokens (IsItem levels) (item_again levels)
 
   -- ---- the whole

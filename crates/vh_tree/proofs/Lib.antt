@@ -33,3 +33,4 @@ pub mod StmtWidth
 pub mod Copies
 pub mod FunctionWidth
 pub mod DesignWidth
+pub mod Fitted

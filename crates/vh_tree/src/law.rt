@@ -30,6 +30,11 @@ pub fn spellable_designs_are_spelled()
     ensures { (design : Design) → IsSpellable design → IsSpelled (canonical_text design) design }
 {}
 
+/// A design that any text spells can be spelled: the conditions on a tree ask no more than the grammar.
+pub fn spelled_designs_are_spellable()
+    ensures { (bytes : List ℕ) (design : Design) → IsSpelled bytes design → IsSpellable design }
+{}
+
 /// A text spells one design at most.
 pub fn one_design_for_a_text()
     ensures { (bytes : List ℕ) (a b : Design) → IsSpelled bytes a → IsSpelled bytes b → a ≡ b }
