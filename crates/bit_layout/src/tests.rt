@@ -7,7 +7,11 @@ use std::alloc::Global;
 use std::test::Fail;
 
 /// Puts a type with these constructors to the end of the table.
-fn push_type(alloc: Global, table: &mut TyTable, constructors: &[&[u32]]) -> Result<(), OutOfMemory> {
+fn push_type(
+    alloc: Global,
+    table: &mut TyTable,
+    constructors: &[&[u32]],
+) -> Result<(), OutOfMemory> {
     let mut list = Items::new(alloc);
     for fields in constructors {
         list.push(Items::from_slice(alloc, fields)?)?;
