@@ -4,12 +4,13 @@ use Rattle.std.specs.Prelude.{codes, ◌&&◌, ◌||◌, not, if◌then◌else�
 use Rattle.std.specs.List.Sorted.{IsPermutation}
 use Rattle.vh_tree.specs.Bits.{Bytes, Bits, same_bits}
 use Rattle.vh_tree.specs.Functions.{Calls, Store, held, expr_of, stmts_of, scope_in, calls_of}
-use Rattle.vh_tree.specs.DeltaCycle.{Wires, Moment, moment_of, rises, put, process_world, process_effect, all_effects}
+use Rattle.vh_tree.specs.DeltaCycle.{Wires, moment_of, rises, put, process_world, process_effect, all_effects}
 use Rattle.vh_tree.specs.Bench.{signals_of, fresh, set_port, start_of, edge, given, outp_of, on_ok, read_first, readings_from, Schedule, IsSchedule, BenchInEveryOrder}
 use Rattle.vh_tree.specs.Equations.{expr_of-Literal, stmt_of-Assign, stmt_of-If, branch_of-Branch}
 use Rattle.rw_base.specs.declared.bit.Bit9.TheVariants.{U, Zero, One}
 use Rattle.vh_tree.specs.declared.process.Process.{Process}
 use Rattle.vh_tree.specs.declared.design.Design.{Design}
+use Rattle.vh_tree.specs.declared.wire.Moment.{Moment}
 use Rattle.vh_tree.specs.declared.wire.Wire.{Wire}
 use Rattle.vh_tree.specs.declared.wire.State.{State}
 use Rattle.register_machine.specs.OneRegister.{OneRegister, HasOneSignal, Computes, clocked, showing, design_of, register_outputs}
@@ -23,7 +24,7 @@ record Reg : Type 0 where
   pending : Option Bits
 
 abbrev named : Bytes → Reg → Wire
-named x g = record { name = x; now = g.now; pending = g.pending }
+named x g = record { name = x; value = g.now; pending = g.pending }
 
 abbrev five : Reg → Reg → Reg → Reg → Reg → Wires
 five k r i o s = named (codes "clk") k ∷ named (codes "rst") r ∷ named (codes "inp") i ∷ named (codes "outp") o ∷ named (codes "s0") s ∷ []
@@ -83,10 +84,10 @@ module _ (m : OneRegister) (next : Bits → Bits → Bits) (shown : Bits → Bit
   show_if y u ws = if y then put (codes "outp") u ws else ws
 
   keeper_does : (calls : Calls) (mo : Moment) (ws : Wires) → stmts_of Wires keeper.body (process_world calls mo) ws
-      ≡ keep (process_world calls mo).rising (process_world calls mo).reset (expr_of m.next (scope_in calls mo.now)) ws
+      ≡ keep (process_world calls mo).rising (process_world calls mo).reset (expr_of m.next (scope_in calls mo.current)) ws
   keeper_does calls mo ws = rw (stmt_of-If, branch_of-Branch, and_true, stmt_of-If, branch_of-Branch, and_true, stmt_of-Assign, expr_of-Literal, stmt_of-Assign) refl
 
-  shower_does : (calls : Calls) (mo : Moment) (ws : Wires) → stmts_of Wires shower.body (process_world calls mo) ws ≡ put (codes "outp") (expr_of m.shown (scope_in calls mo.now)) ws
+  shower_does : (calls : Calls) (mo : Moment) (ws : Wires) → stmts_of Wires shower.body (process_world calls mo) ws ≡ put (codes "outp") (expr_of m.shown (scope_in calls mo.current)) ws
   shower_does calls mo ws = rw stmt_of-Assign refl
 
   -- both, in either order
