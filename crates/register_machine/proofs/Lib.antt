@@ -7,4 +7,5 @@ pub mod Choices
 pub mod Tables
 pub mod Keeping
 pub mod Static
+pub mod Spelling
 pub mod Encodings

@@ -6,6 +6,7 @@ use Rattle.rw_core.specs.Bits.{constructors_of, width_of, encoding}
 use Rattle.vh_tree.specs.Bits.{Bits}
 use Rattle.vh_tree.specs.Bench.{BenchInEveryOrder}
 use Rattle.vh_tree.specs.StaticRules.{IsStatic}
+use Rattle.vh_tree.specs.Spellable.{IsSpellable}
 use Rattle.vh_tree.specs.declared.design.Design.{Design}
 use Rattle.register_machine.specs.Codes.{wire_bit, code, code_width}
 use Rattle.register_machine.specs.Machine.{IsMachine, machine_outputs}
@@ -34,6 +35,10 @@ pub record FitsCodes (m : Machine) (d : Design) : Type 0 where
 
 abbrev pub StaticLaw : Type 0
 StaticLaw = (m : Machine) → IsMachine m → FitsCodes m (machine_design m)
+
+-- the design of a machine can be spelled
+abbrev pub SpellableLaw : Type 0
+SpellableLaw = (m : Machine) → IsMachine m → IsSpellable (machine_design m)
 
 -- a data type of constructors without fields has the width of codes, and the encoding of a constructor is the code of
 -- its number

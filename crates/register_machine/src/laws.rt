@@ -1,5 +1,5 @@
 // What the designs show: functions without a body, whose contracts are the laws.
-ghost use Rattle.register_machine.specs.Laws.{RegisterLaw, MachineLaw, StaticLaw, CodeLaw};
+ghost use Rattle.register_machine.specs.Laws.{RegisterLaw, MachineLaw, StaticLaw, SpellableLaw, CodeLaw};
 
 /// A design with one register settles within four delta cycles of each change and shows the outputs of its two
 /// expressions, edge by edge, for every list of inputs and every order of the processes (IEEE Std 1076-1993,
@@ -19,6 +19,12 @@ pub fn machine_law()
 /// profile), and its ports have the widths of the codes of inputs and outputs: at most 32 bits.
 pub fn static_law()
     ensures { StaticLaw }
+{}
+
+/// The design of a machine can be spelled: its names, widths, nesting and lists are such as the grammar of designs
+/// asks, so its canonical text spells it (IEEE Std 1076-1993, section 13, in this project's profile).
+pub fn spellable_law()
+    ensures { SpellableLaw }
 {}
 
 /// Where no constructor of a data type has fields, the code of a constructor's number is its encoding, and the type
