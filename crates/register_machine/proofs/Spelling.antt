@@ -1,5 +1,5 @@
 -- The design of a machine can be spelled.
-use Rattle.std.proofs.Common.{◌≡◌, ◌≢◌, ℕ, zero, suc, ◌+◌, ◌^◌, ◌<◌, ◌≤◌, List, [], ◌∷◌, length, refl, ap, sym, subst, arith, ⊎_elim}
+use Rattle.std.proofs.Common.{◌≢◌, ℕ, zero, suc, ◌+◌, ◌^◌, ◌<◌, ◌≤◌, List, [], ◌∷◌, length, refl, ap, sym, subst, arith, ⊎_elim}
 use Rattle.std.specs.Prelude.{codes}
 use Rattle.std.proofs.lemmas.Bool.{cases_lt}
 use Rattle.vh_tree.specs.Bits.{Bytes}
@@ -12,8 +12,7 @@ use Rattle.vh_tree.specs.declared.expr.VExpr.{VExpr}
 use Rattle.vh_tree.specs.declared.expr.VExpr.TheVariants.{Name, Slice, Literal, Call}
 use Rattle.vh_tree.specs.declared.stmt.Test.TheVariants.{Equal, Rising, Reset}
 use Rattle.vh_tree.specs.declared.stmt.VStmt.{VStmt}
-use Rattle.vh_tree.specs.declared.stmt.VStmt.TheVariants.{Assign, If}
-use Rattle.vh_tree.specs.declared.design.Item.TheVariants.{Signal, Function as Declared}
+use Rattle.vh_tree.specs.declared.stmt.VStmt.TheVariants.{Assign}
 use Rattle.register_machine.specs.Codes.{code, code_width}
 use Rattle.register_machine.specs.Machine.{IsMachine, shown_in, next_of}
 use Rattle.register_machine.specs.Decision.{either, decide}
