@@ -1,5 +1,5 @@
 -- An assignment writes at the first variable, or the first wire, of that name.
-use Rattle.std.proofs.Common.{◌≡◌, ℕ, suc, ◌+◌, ◌<◌, List, ◌∷◌, ◌++◌, length, take, drop, get_or, true, cond, sym, ap, ◌∙◌, drop-cons, Some}
+use Rattle.std.proofs.Common.{◌≡◌, ℕ, suc, ◌<◌, List, ◌∷◌, ◌++◌, length, take, drop, get_or, true, cond, sym, ap, ◌∙◌, drop-cons, Some}
 use Rattle.std.specs.Prelude.{slice_set}
 use Rattle.std.proofs.lemmas.List.{set_split}
 use Rattle.vh_tree.specs.Bits.{Bits, same_name}

@@ -14,7 +14,7 @@ use Rattle.vh_tree.specs.declared.stmt.VStmt.TheVariants.{Assign, If}
 use Rattle.vh_tree.specs.declared.stmt.Branch.{Branch}
 use Rattle.vh_tree.specs.declared.process.Process.{Process}
 use Rattle.vh_tree.specs.declared.design.Item.{Item}
-use Rattle.vh_tree.proofs.Tests.{both_left, both_right, either_cases, name_same, among_keeps}
+use Rattle.vh_tree.proofs.Comparisons.{both_left, both_right, either_cases, name_same, among_keeps}
 
 -- what is assigned to keeps what each assignment keeps of its name
 module _ (assignment : Bytes → VExpr → Bool) (test : Test → Bool) (good : Bytes → Bool) (tells : (x : Bytes) (e : VExpr) → assignment x e ≡ true → good x ≡ true) where

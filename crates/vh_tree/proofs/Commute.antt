@@ -12,7 +12,7 @@ use Rattle.vh_tree.specs.declared.stmt.Test.TheVariants.{Equal, Rising, Reset}
 use Rattle.vh_tree.specs.declared.stmt.VStmt.{VStmt}
 use Rattle.vh_tree.specs.declared.stmt.VStmt.TheVariants.{Assign, If}
 use Rattle.vh_tree.specs.declared.stmt.Branch.{Branch}
-use Rattle.vh_tree.proofs.Tests.{either_left, either_right, name_self}
+use Rattle.vh_tree.proofs.Comparisons.{either_left, either_right, name_self}
 
 module _ {S : Type 0} (w : World S) (still : (s t : S) → w.scope s ≡ w.scope t) (f : S → S) where
   abbrev Moves : (Bytes → Bool) → Type 0

@@ -10,7 +10,7 @@ use Rattle.vh_tree.specs.declared.expr.VExpr.TheVariants.{Name}
 use Rattle.vh_tree.specs.declared.stmt.VStmt.{VStmt}
 use Rattle.vh_tree.specs.declared.stmt.VStmt.TheVariants.{Assign}
 use Rattle.vh_tree.specs.declared.function.Var.{Var}
-use Rattle.vh_tree.proofs.Tests.{both_left, both_right, name_same}
+use Rattle.vh_tree.proofs.Comparisons.{both_left, both_right, name_same}
 
 -- a bare name is that name
 pub bare_name : (x : Bytes) (e : VExpr) → is_name x e ≡ true → e ≡ Name x

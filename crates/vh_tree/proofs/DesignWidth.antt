@@ -14,7 +14,7 @@ use Rattle.vh_tree.specs.declared.function.Function.{Function}
 use Rattle.vh_tree.specs.declared.design.Item.{Item}
 use Rattle.vh_tree.specs.declared.design.Item.TheVariants.{Signal, Function as Declared}
 use Rattle.vh_tree.specs.declared.design.Design.{Design}
-use Rattle.vh_tree.proofs.Tests.{both_left, both_right, both_so, either_cases, either_left, either_right, name_self, name_same, name_turned, not_false}
+use Rattle.vh_tree.proofs.Comparisons.{both_left, both_right, both_so, either_cases, either_left, either_right, name_self, name_same, name_turned, not_false}
 use Rattle.vh_tree.proofs.Stores.{value_width, read_width}
 use Rattle.vh_tree.proofs.ExprWidth.{has_width}
 use Rattle.vh_tree.proofs.FunctionWidth.{gives_bare, gives_width}

@@ -10,7 +10,7 @@ use Rattle.vh_tree.specs.Equations.{expr_of-Name, expr_of-Slice, expr_of-Literal
 use Rattle.vh_tree.specs.Induction.{every_expr}
 use Rattle.vh_tree.specs.declared.expr.VExpr.{VExpr}
 use Rattle.vh_tree.specs.declared.expr.VExpr.TheVariants.{Name, Slice, Literal, Call, Join}
-use Rattle.vh_tree.proofs.Tests.{both_left, both_right, either_cases}
+use Rattle.vh_tree.proofs.Comparisons.{both_left, both_right, either_cases}
 
 -- a width and a value, each known by an equation
 pub carried : (w u : Width) (value other : Bits) → w ≡ u → value ≡ other → HasWidth u other → HasWidth w value

@@ -13,7 +13,7 @@ use Rattle.vh_tree.specs.declared.stmt.VStmt.{VStmt}
 use Rattle.vh_tree.specs.declared.function.Var.{Var}
 use Rattle.vh_tree.specs.declared.function.Function.{Function}
 use Rattle.vh_tree.specs.declared.design.Item.{Item}
-use Rattle.vh_tree.proofs.Tests.{both_left, both_right, either_left, either_right, name_self}
+use Rattle.vh_tree.proofs.Comparisons.{both_left, both_right, either_left, either_right, name_self}
 use Rattle.vh_tree.proofs.Copies.{copy_is, enough_vars}
 use Rattle.vh_tree.proofs.Stores.{value_width, read_width, stored_width, append_widths, variables_width, parameters_width, among_later, among_earlier}
 use Rattle.vh_tree.proofs.ExprWidth.{carried, of_name, has_width}

@@ -1,5 +1,5 @@
 -- Lemmas: on tests, on trees, and then the laws.
-pub mod Tests
+pub mod Comparisons
 pub mod Commute
 pub mod Swaps
 pub mod Apart

@@ -12,7 +12,7 @@ use Rattle.vh_tree.specs.declared.wire.Moment.{Moment}
 use Rattle.vh_tree.specs.declared.wire.State.{State}
 use Rattle.vh_tree.specs.declared.process.Process.{Process}
 use Rattle.vh_tree.specs.declared.design.Design.{Design}
-use Rattle.vh_tree.proofs.Tests.{both_right, not_false, name_same}
+use Rattle.vh_tree.proofs.Comparisons.{both_right, not_false, name_same}
 use Rattle.vh_tree.proofs.Commute.{stmts_follow}
 use Rattle.vh_tree.proofs.Swaps.{IsTurning, swapped}
 use Rattle.vh_tree.proofs.Apart.{Apart, AllApart, driven_apart}

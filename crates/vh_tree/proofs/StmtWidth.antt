@@ -13,7 +13,7 @@ use Rattle.vh_tree.specs.declared.stmt.VStmt.{VStmt}
 use Rattle.vh_tree.specs.declared.stmt.VStmt.TheVariants.{Assign, If}
 use Rattle.vh_tree.specs.declared.stmt.Branch.{Branch}
 use Rattle.vh_tree.specs.declared.function.Var.{Var}
-use Rattle.vh_tree.proofs.Tests.{both_left, both_right}
+use Rattle.vh_tree.proofs.Comparisons.{both_left, both_right}
 use Rattle.vh_tree.proofs.Stores.{stored_width}
 use Rattle.vh_tree.proofs.ExprWidth.{has_width}
 

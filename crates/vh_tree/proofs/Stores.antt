@@ -8,7 +8,7 @@ use Rattle.vh_tree.specs.StaticRules.{Width, Shape, width_of_name, result_of, ag
 use Rattle.vh_tree.specs.Widths.{HasWidth, StoreHasWidths}
 use Rattle.vh_tree.specs.declared.function.Var.{Var}
 use Rattle.vh_tree.specs.declared.wire.Held.{Held}
-use Rattle.vh_tree.proofs.Tests.{either_cases, either_left, either_right, name_turned}
+use Rattle.vh_tree.proofs.Comparisons.{either_cases, either_left, either_right, name_turned}
 
 named_step : (b c : Bool) → c ≡ b → (n : ℕ) (w : Width) (shape : Option Shape) (u r : Bits) → length u ≡ n → HasWidth (width_of_name w shape) r →
     HasWidth (width_of_name (if b then Some n else w) shape) (if c then u else r)

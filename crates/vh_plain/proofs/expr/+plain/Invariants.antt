@@ -3,7 +3,7 @@ use Rattle.std.proofs.Common.{◌≡◌, ◌++◌, drop, map}
 use Rattle.std.specs.List.{list_all, flat_map}
 use Rattle.vh_tree.specs.declared.stmt.Test.{Test}
 use Rattle.vh_tree.specs.declared.expr.VExpr.{VExpr}
-use Rattle.vh_tree.specs.Functions.{Store, expr_of, scope_in, value_in, calls_of, function_world, test_holds, stmt_of, stmts_of, branch_of, first_taken, in_order}
+use Rattle.vh_tree.specs.Functions.{Store, expr_of, scope_in, calls_of, function_world, test_holds, stmt_of, stmts_of, branch_of, first_taken, in_order}
 use Rattle.vh_plain.proofs.expr.+plain.Given as goal
 
 abbrev pub decreases-all_hold : goal.decreases-all_hold
