@@ -127,15 +127,20 @@ module _ (m : Machine) (is : IsMachine m) where
       (λ i h. code_assigned_fits side.Function (codes "v2") states (next_of m s i) v2)
 
   next_body_fits : (levels : ℕ) → 64 ≤ levels → f.StmtsFit side.Function levels (next_body m)
-  next_body_fits levels enough =
-      (copied_fits (codes "v0") (codes "p0") levels v0 p0, (copied_fits (codes "v1") (codes "p1") levels v1 p1,
-      decide_code_fits side.Function (codes "v1") states 32 levels (input_decision m) v1 some_states is.few_states (omega arith) (λ s h. next_of_state_fits s)))
+  next_body_fits levels enough = (
+    copied_fits (codes "v0") (codes "p0") levels v0 p0,
+    (
+      copied_fits (codes "v1") (codes "p1") levels v1 p1,
+      decide_code_fits side.Function (codes "v1") states 32 levels (input_decision m) v1 some_states is.few_states (omega arith) (λ s h. next_of_state_fits s),
+    ),
+  )
 
   shown_body_fits : (levels : ℕ) → 64 ≤ levels → f.StmtsFit side.Function levels (shown_body m)
-  shown_body_fits levels enough =
-      (copied_fits (codes "v0") (codes "p0") levels v0 p0,
-      decide_code_fits side.Function (codes "v0") states 0 levels (λ s. code_assigned (codes "v1") m.outputs (shown_in m s)) v0 some_states is.few_states (omega arith)
-      (λ s h. code_assigned_fits side.Function (codes "v1") m.outputs (shown_in m s) v1))
+  shown_body_fits levels enough = (
+    copied_fits (codes "v0") (codes "p0") levels v0 p0,
+    decide_code_fits side.Function (codes "v0") states 0 levels (λ s. code_assigned (codes "v1") m.outputs (shown_in m s)) v0 some_states is.few_states (omega arith)
+        (λ s h. code_assigned_fits side.Function (codes "v1") m.outputs (shown_in m s) v1),
+  )
 
   next_function_fits : (levels : ℕ) → 64 ≤ levels → f.FunctionFits levels (next_function m)
   next_function_fits levels enough = record {
@@ -156,9 +161,10 @@ module _ (m : Machine) (is : IsMachine m) where
   }
 
   items_fit : (levels : ℕ) → 64 ≤ levels → f.Each (f.ItemFits levels) (machine_items m)
-  items_fit levels enough =
-      (f.ItemFits.a_signal (coded (codes "s0") states) (coded_fits (codes "s0") states s0 is.few_states),
-      (f.ItemFits.a_function (next_function m) (next_function_fits levels enough), (f.ItemFits.a_function (shown_function m) (shown_function_fits levels enough), tt)))
+  items_fit levels enough = (
+    f.ItemFits.a_signal (coded (codes "s0") states) (coded_fits (codes "s0") states s0 is.few_states),
+    (f.ItemFits.a_function (next_function m) (next_function_fits levels enough), (f.ItemFits.a_function (shown_function m) (shown_function_fits levels enough), tt)),
+  )
 
   -- ---- processes, with three levels below
   state_name : (Args : List VExpr → Type 0) → f.ExprFits Args (Name (codes "s0"))
