@@ -50,7 +50,7 @@ pub apart : {A : Type 0} (test : A → Bool) (a b : A) → b ≡ a → test a �
 apart test a b e f t = let g = ap test e in cc
 
 -- the machine of a source is well formed
-short_words : (source : List ℕ) (tokens : List Token) → HasTokens source tokens → length (words_of tokens) < 2 ^ 31
+pub short_words : (source : List ℕ) (tokens : List Token) → HasTokens source tokens → length (words_of tokens) < 2 ^ 31
 short_words source tokens h =
     let few = tokens_few source tokens h.listed in
     let same = length-map tokens word_of in
