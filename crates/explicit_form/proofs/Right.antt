@@ -1,5 +1,5 @@
 -- What is compiled is right, by the laws of machines, of texts and of token lists.
-use Rattle.std.proofs.Common.{◌≡◌, ℕ, ◌<◌, ◌^◌, true, List, [], ◌∷◌, map, length, Some, refl, sym, ◌∙◌, ap, subst, arith}
+use Rattle.std.proofs.Common.{◌≡◌, ℕ, ◌<◌, true, List, [], ◌∷◌, map, length, refl, sym, ◌∙◌, ap, subst, arith}
 use Rattle.std.specs.Prelude.{All, bytes_eq}
 use Rattle.std.proofs.lemmas.List.{length-map}
 use Rattle.std.proofs.lemmas.List.Elements.{All-head, All-tail, All-map}
@@ -14,7 +14,7 @@ use Rattle.vh_tree.specs.Spellable.{IsSpellable}
 use Rattle.vh_tree.specs.Canonical.{canonical_text}
 use Rattle.vh_tree.specs.declared.design.Design.{Design}
 use Rattle.register_machine.specs.Codes.{code, code_width}
-use Rattle.register_machine.specs.Machine.{IsMachine, machine_outputs}
+use Rattle.register_machine.specs.Machine.{IsMachine}
 use Rattle.register_machine.specs.Design.{machine_design}
 use Rattle.register_machine.specs.Laws.{MachineLaw, StaticLaw, SpellableLaw, CodeLaw}
 use Rattle.register_machine.specs.declared.machine.Machine.{Machine}
@@ -22,10 +22,9 @@ use Rattle.explicit_form.specs.declared.form.Form.{Form}
 use Rattle.explicit_form.specs.Words.{words_of}
 use Rattle.explicit_form.specs.Fit.{is_among, place_of, inputs_of, outputs_of, machine_of}
 use Rattle.explicit_form.specs.Grammar.{IsForm}
-use Rattle.explicit_form.specs.Explicit.{Spells, IsExplicit, IsCompiled}
+use Rattle.explicit_form.specs.Explicit.{Spells, IsExplicit}
 use Rattle.explicit_form.specs.Outputs.{form_outputs, plain_type, plain_width, encoded}
-use Rattle.explicit_form.specs.Read.{form_at}
-use Rattle.explicit_form.specs.Right.{AreInputs, ShowsOutputs, IsRight, CompiledLaw}
+use Rattle.explicit_form.specs.Right.{ShowsOutputs, CompiledLaw}
 use Rattle.explicit_form.proofs.Exact.{some_is}
 use Rattle.explicit_form.proofs.Forms.{form_complete}
 use Rattle.explicit_form.proofs.Machines.{machine_fits, form_fits}

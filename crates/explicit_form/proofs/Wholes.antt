@@ -1,5 +1,5 @@
 -- From the tokens of a source to its tree and its machine.
-use Rattle.std.proofs.Common.{◌≡◌, ℕ, ◌<◌, ◌≤◌, ◌^◌, Bool, true, false, List, length, Some, None, Result, Ok, Err, refl, sym, ap, subst, ◌∙◌, arith}
+use Rattle.std.proofs.Common.{◌≡◌, ℕ, ◌<◌, ◌^◌, Bool, true, false, List, length, Some, None, Result, Ok, Err, sym, ap, subst, arith}
 use Rattle.std.specs.Prelude.{IfOk, IsErrOf}
 use Rattle.std.proofs.lemmas.List.{length-map}
 use Rattle.rw_lex.specs.declared.token.Token.{Token}
