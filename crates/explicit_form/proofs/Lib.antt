@@ -10,3 +10,6 @@ pub mod Wholes
 pub mod News
 pub mod Slots
 pub mod Arms
+-- What a source shows is what its machine shows, and so what its design shows.
+pub mod Outputs
+pub mod Right

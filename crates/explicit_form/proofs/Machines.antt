@@ -29,7 +29,7 @@ first_below p [] e = absurd (cc)
 first_below p (x ∷ xs) e = first_step (p x) (list_any p xs) (position_or_len p xs) (length xs) e (first_below p xs)
 
 -- what passes a test that each element passes
-all_pass : {X : Type 0} (p : X → Bool) (P : X → Type 0) → ((x : X) → p x ≡ true → P x) → (xs : List X) → list_all p xs ≡ true → All P xs
+pub all_pass : {X : Type 0} (p : X → Bool) (P : X → Type 0) → ((x : X) → p x ≡ true → P x) → (xs : List X) → list_all p xs ≡ true → All P xs
 all_pass p P h [] e = All-nil P
 all_pass p P h (x ∷ xs) e = let b = both (p x) (list_all p xs) e in All-cons P x xs (h x b.0) (all_pass p P h xs b.1)
 
@@ -106,12 +106,12 @@ record IsStateOf (outputs inputs states : ℕ) (state : State) : Type 0 where
   goes : (i : ℕ) → i < inputs → slice_index state.next i < states
 
 -- what is used of a function's being in order
-record FunctionFits (inputs outputs names : List (List ℕ)) (f : Function) : Type 0 where
-  shown : is_among f.shown outputs ≡ true
-  arms : list_all (fits_arm inputs names) f.arms ≡ true
-  entries : list_all is_some (entries_from 0 (length inputs) (map (entry_of inputs names) f.arms)) ≡ true
+pub record FunctionFits (inputs outputs names : List (List ℕ)) (f : Function) : Type 0 where
+  pub shown : is_among f.shown outputs ≡ true
+  pub arms : list_all (fits_arm inputs names) f.arms ≡ true
+  pub entries : list_all is_some (entries_from 0 (length inputs) (map (entry_of inputs names) f.arms)) ≡ true
 
-function_fits : (inputs outputs names : List (List ℕ)) (f : Function) → fits_function inputs outputs names f ≡ true → FunctionFits inputs outputs names f
+pub function_fits : (inputs outputs names : List (List ℕ)) (f : Function) → fits_function inputs outputs names f ≡ true → FunctionFits inputs outputs names f
 function_fits inputs outputs names f e =
     let complete = both _ _ e in
     let arms = both _ _ complete.0 in
@@ -135,17 +135,17 @@ states_fit inputs outputs names functions e =
 
 -- ---- the machine
 -- what is used of a tree's being in order
-record FormFits (form : Form) : Type 0 where
-  few : length (names_of form.functions) ≤ 1024
-  input : is_some (constructors_of form.datas form.ports.input) ≡ true
-  output : is_some (constructors_of form.datas form.ports.output) ≡ true
-  start : is_among form.start (names_of form.functions) ≡ true
-  functions : list_all (fits_function (inputs_of form) (outputs_of form) (names_of form.functions)) form.functions ≡ true
+pub record FormFits (form : Form) : Type 0 where
+  pub few : length (names_of form.functions) ≤ 1024
+  pub input : is_some (constructors_of form.datas form.ports.input) ≡ true
+  pub output : is_some (constructors_of form.datas form.ports.output) ≡ true
+  pub start : is_among form.start (names_of form.functions) ≡ true
+  pub functions : list_all (fits_function (inputs_of form) (outputs_of form) (names_of form.functions)) form.functions ≡ true
 
 names_few : (names : List (List ℕ)) → fits_names names ≡ true → length names ≤ 1024
 names_few names e = grind (arith, e)
 
-form_fits : (form : Form) → is_fit form ≡ true → FormFits form
+pub form_fits : (form : Form) → is_fit form ≡ true → FormFits form
 form_fits form e =
     let functions = both _ _ e in
     let start = both _ _ functions.0 in

@@ -1,5 +1,5 @@
 -- From the tokens of a source to its tree and its machine.
-use Rattle.std.proofs.Common.{◌≡◌, ℕ, ◌<◌, ◌≤◌, ◌^◌, Bool, true, false, List, length, Some, None, Result, Ok, Err, refl, sym, ap, subst, ◌∙◌, arith}
+use Rattle.std.proofs.Common.{◌≡◌, ℕ, ◌<◌, ◌^◌, Bool, true, false, List, length, Some, None, Result, Ok, Err, sym, ap, subst, arith}
 use Rattle.std.specs.Prelude.{IfOk, IsErrOf}
 use Rattle.std.proofs.lemmas.List.{length-map}
 use Rattle.rw_lex.specs.declared.token.Token.{Token}
@@ -50,7 +50,7 @@ pub apart : {A : Type 0} (test : A → Bool) (a b : A) → b ≡ a → test a �
 apart test a b e f t = let g = ap test e in cc
 
 -- the machine of a source is well formed
-short_words : (source : List ℕ) (tokens : List Token) → HasTokens source tokens → length (words_of tokens) < 2 ^ 31
+pub short_words : (source : List ℕ) (tokens : List Token) → HasTokens source tokens → length (words_of tokens) < 2 ^ 31
 short_words source tokens h =
     let few = tokens_few source tokens h.listed in
     let same = length-map tokens word_of in

@@ -8,6 +8,7 @@
 mod fit;
 mod form;
 mod judge;
+mod law;
 mod names;
 mod read;
 mod source;
@@ -16,5 +17,6 @@ mod unread;
 mod words;
 
 pub use form::{Arm, Data, Form, Function, Ports};
+pub use law::compiled_law;
 pub use source::{compile, read_machine};
 pub use unread::Unread;

@@ -3,6 +3,7 @@ ghost use Rattle.std.specs.Prelude.{◌≡◌, ◌↔◌, List, IsTrue, IfOk, Is
 ghost use Rattle.std.specs.List.{flat_map};
 ghost use Rattle.rw_lex.specs.declared.token.Token.{Token};
 ghost use Rattle.explicit_form.specs.Explicit.{HasNoComment, HasTokens, Spells, IsCompiled, IsExplicitSource, IsMachineOfSource};
+ghost use Rattle.explicit_form.specs.Right.{IsRight};
 ghost use Rattle.explicit_form.specs.declared.form.Form.{Form};
 ghost use Rattle.register_machine.specs.Machine.{IsMachine};
 ghost use Rattle.explicit_form.specs.Explicit as explicit;
@@ -10,6 +11,7 @@ ghost use Rattle.explicit_form.specs.Explicit as explicit;
 use crate::Unread;
 use crate::fit::machine;
 use crate::form::Form;
+use crate::law::compiled_law;
 use crate::read::read_form;
 use register_machine::{Machine, design};
 use rw_base::Fail;
@@ -104,12 +106,17 @@ pub fn read_machine(alloc: Global, source: &[u8]) -> Result<Machine, Unread>
 
 /// The VHDL text of a source of the explicit form: the canonical text of the design of its machine.
 ///
+/// The text spells one design, which shows the outputs of the source: the first after a reset edge, and the next after
+/// each input, by the encodings of the constructors (IEEE Std 1076-1993, section 12.6.4).
+///
 /// `source` are the bytes of the source. The answer is `NotOfTheForm` exactly where it isn't of the explicit form.
 pub fn compile(alloc: Global, source: &[u8]) -> Result<Vec<u8>, Unread>
     ensures compiled { IfOk result (λ text. IsCompiled source.now text.items) }
+    ensures right { IfOk result (λ text. IsRight source.now text.items) }
     ensures refused { IsErrOf result Unread.NotOfTheForm → IsExplicitSource source.now → ⊥ }
 {
     let machine = read_machine(alloc, source)?;
     let design = design(alloc, &machine)?;
+    compiled_law();
     Ok(print(alloc, &design)?)
 }
