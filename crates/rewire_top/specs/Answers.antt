@@ -1,7 +1,7 @@
 -- What each answer of a command says of the source and of what is saved.
-use Rattle.std.specs.Prelude.{◌≡◌, ◌≢◌, ◌⊎◌, ℕ, List, Option, Some, None}
+use Rattle.std.specs.Prelude.{ℕ, List, Option, Some, None}
 use Rattle.rw_base.specs.Outside.{Files, Loads, Saved, SavedInPart}
-use Rattle.explicit_form.specs.Explicit.{IsExplicitSource}
+use Rattle.explicit_form.specs.Explicit.{IsCompiled, IsExplicitSource}
 use Rattle.explicit_form.specs.Right.{IsRight}
 use Rattle.rw_base.specs.declared.rule.Rule.TheVariants.{E00}
 use Rattle.rewire_top.specs.Commands.{Command, Compile}
@@ -12,17 +12,17 @@ use Rattle.rewire_top.specs.declared.status.Status.TheVariants.{Refused, VhdlRef
 abbrev pub most_of_source : ℕ
 most_of_source = 262145
 
--- Ok: the source is of the explicit form, and the target holds a text that spells one design, which shows its outputs
+-- Ok: the source is of the explicit form, and the target holds the text of its design, which shows its outputs
 abbrev pub Compiles : Option Command → Files → Files → Type 0
 Compiles None old new = ⊥
 Compiles (Some (Compile file target)) old new =
-    (source text : List ℕ) × Loads file most_of_source source old × IsRight source text × Saved target text old new
+    (source text : List ℕ) × Loads file most_of_source source old × IsCompiled source text × IsRight source text × Saved target text old new
 
 -- WriteFault: the same, but the target holds what it held, or a prefix of that text
 abbrev pub CompilesInPart : Option Command → Files → Files → Type 0
 CompilesInPart None old new = ⊥
 CompilesInPart (Some (Compile file target)) old new =
-    (source text : List ℕ) × Loads file most_of_source source old × IsRight source text × SavedInPart target text old new
+    (source text : List ℕ) × Loads file most_of_source source old × IsCompiled source text × IsRight source text × SavedInPart target text old new
 
 -- Refused: the file holds a source that is not of the explicit form
 abbrev pub IsNotOfTheForm : Option Command → Files → Type 0

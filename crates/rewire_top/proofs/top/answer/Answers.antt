@@ -1,4 +1,4 @@
-use Rattle.std.proofs.Common.{◌≡◌, Option, subst, sym}
+use Rattle.std.proofs.Common.{Option, subst, sym}
 use Rattle.rewire_top.specs.Commands.{Command}
 use Rattle.rewire_top.specs.Answers.{IsNotOfTheForm}
 use Rattle.rewire_top.proofs.top.answer.Goals as goal
