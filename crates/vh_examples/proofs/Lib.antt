@@ -1,0 +1,2 @@
+-- How a fold is computed.
+pub mod Folds

@@ -1,0 +1,10 @@
+//! The static rules of a design, computed on worked designs: what each contract says of one design, the checker has
+//! computed from the definitions.
+//!
+//! It leaves the meaning of a design to `vh_plain`, whose tests compute that. Nothing uses it: it is here for whoever
+//! holds the definitions against the standard. Begin with `specs/Designs.antt`, then `accepted.rt`.
+#![tactic(auto)]
+
+mod accepted;
+
+pub use accepted::switch_is_static;
