@@ -1,2 +1,2 @@
--- How a fold is computed.
+-- What the examples are computed by.
 pub mod Folds

@@ -6,5 +6,9 @@
 #![tactic(auto)]
 
 mod accepted;
+mod refused;
 
-pub use accepted::switch_is_static;
+pub use accepted::{accepted_forms, oscillator_is_static, switch_is_static};
+pub use refused::{
+    drivers_are_judged, names_are_judged, order_is_judged, ports_are_judged, widths_are_judged,
+};
