@@ -2,7 +2,7 @@
 //! computed from the definitions.
 //!
 //! It leaves the meaning of a design to `vh_plain`, whose tests compute that. Nothing uses it: it is here for whoever
-//! holds the definitions against the standard. Begin with `specs/Designs.antt`, then `accepted.rt`.
+//! holds the definitions against the standard. Begin with `specs/Designs.antt`, then `accepted.rt` and `refused.rt`.
 #![tactic(auto)]
 
 mod accepted;
