@@ -1,0 +1,2 @@
+-- What the examples are computed by.
+pub mod Folds
