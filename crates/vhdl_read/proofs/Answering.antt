@@ -1,5 +1,5 @@
 -- An answer to a text is the one that its spelling, or the rule that it breaks, asks for.
-use Rattle.std.proofs.Common.{◌≡◌, ◌↔◌, ℕ, true, false, List, Option, Some, None, Result, Ok, Err, sym, ap, subst, ◌∙◌, refl, ◌⊎◌, inl, inr}
+use Rattle.std.proofs.Common.{◌≡◌, ◌↔◌, ℕ, true, false, List, Some, None, Result, Ok, Err, sym, ap, subst, ◌∙◌, refl, inl, inr}
 use Rattle.rw_base.specs.declared.rule.VRule.TheVariants as v
 use Rattle.vh_tree.specs.declared.token.Token.{Token}
 use Rattle.vh_tree.specs.declared.design.Design.{Design}

@@ -119,10 +119,7 @@ fn params(alloc: Global, tokens: &[Token]) -> Result<(Items<Ident>, &[Token]), U
 
 // params `return std_logic_vector is` variable* `begin`
 #[tactic(auto, unfolding(vh_tree::specs::ReadDesign::head_at))]
-pub fn head(
-    alloc: Global,
-    tokens: &[Token],
-) -> Result<(Items<Ident>, Items<Var>, &[Token]), Unread>
+pub fn head(alloc: Global, tokens: &[Token]) -> Result<(Items<Ident>, Items<Var>, &[Token]), Unread>
     ensures { Gives (λ x. ((x.0, x.1), x.2.now)) result (spec.head_at tokens.now) }
 {
     let (names, rest) = params(alloc, tokens)?;

@@ -32,11 +32,7 @@ pub fn args(
 
 // expr (`,` expr)*
 #[cycle(exprs)]
-fn exprs(
-    alloc: Global,
-    levels: usize,
-    tokens: &[Token],
-) -> Result<(Items<VExpr>, &[Token]), Unread>
+fn exprs(alloc: Global, levels: usize, tokens: &[Token]) -> Result<(Items<VExpr>, &[Token]), Unread>
     ensures { Gives (λ x. (x.0, x.1.now)) result (separated_at m.Comma (spec.expr_at (spec.args_at levels)) (length tokens.now) tokens.now) }
 {
     let mut all = Items::new(alloc);
@@ -75,11 +71,7 @@ fn join(mut parts: Items<VExpr>) -> VExpr
 
 // term (`&` term)*
 #[cycle(exprs)]
-fn terms(
-    alloc: Global,
-    levels: usize,
-    tokens: &[Token],
-) -> Result<(Items<VExpr>, &[Token]), Unread>
+fn terms(alloc: Global, levels: usize, tokens: &[Token]) -> Result<(Items<VExpr>, &[Token]), Unread>
     ensures { Gives (λ x. (x.0, x.1.now)) result (separated_at m.Amp (spec.term_at (spec.args_at levels)) (length tokens.now) tokens.now) }
 {
     let mut all = Items::new(alloc);

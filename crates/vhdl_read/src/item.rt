@@ -46,11 +46,7 @@ fn tail<'a>(
 
 // function ::= `function` id params `return std_logic_vector is` variable* `begin` stmt* `return` expr `; end` id `;`
 #[tactic(auto, unfolding(vh_tree::specs::ReadDesign::function_at))]
-fn function(
-    alloc: Global,
-    levels: usize,
-    tokens: &[Token],
-) -> Result<(Function, &[Token]), Unread>
+fn function(alloc: Global, levels: usize, tokens: &[Token]) -> Result<(Function, &[Token]), Unread>
     ensures { Gives (λ x. (x.0, x.1.now)) result (spec.function_at levels tokens.now) }
 {
     let rest = after(tokens, Mark::Function)?;

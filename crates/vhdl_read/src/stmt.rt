@@ -206,11 +206,7 @@ fn branch(
 }
 
 // test (`and` test)*
-fn tests(
-    alloc: Global,
-    levels: usize,
-    tokens: &[Token],
-) -> Result<(Items<Test>, &[Token]), Unread>
+fn tests(alloc: Global, levels: usize, tokens: &[Token]) -> Result<(Items<Test>, &[Token]), Unread>
     ensures { Gives (λ x. (x.0, x.1.now)) result (separated_at m.And (spec.test_at (spec.args_at levels)) (length tokens.now) tokens.now) }
 {
     let mut all = Items::new(alloc);

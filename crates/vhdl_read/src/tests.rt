@@ -99,7 +99,13 @@ fn texts_refused(rt: HostRuntime) -> Result<(), Fail> {
     let (front, _) = SWITCH.split_at(SWITCH.len().saturating_sub(LAST_LINES));
     assert_eq!(rt; refusal(alloc, front), Some(ReadFail::Refused(VRule::V3)));
     assert_eq!(rt; refusal(alloc, b""), Some(ReadFail::Refused(VRule::V3)));
-    assert_eq!(rt; refusal(alloc, b"library ieee_"), Some(ReadFail::Refused(VRule::V2)));
-    assert_eq!(rt; refusal(alloc, b"01 \xc8"), Some(ReadFail::Refused(VRule::V1)));
+    assert_eq!(rt;
+        refusal(alloc, b"library ieee_"),
+        Some(ReadFail::Refused(VRule::V2))
+    );
+    assert_eq!(rt;
+        refusal(alloc, b"01 \xc8"),
+        Some(ReadFail::Refused(VRule::V1))
+    );
     Ok(())
 }

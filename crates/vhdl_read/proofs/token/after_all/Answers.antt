@@ -1,8 +1,6 @@
 -- One mark after another.
-use Rattle.std.proofs.Common.{◌≡◌, length, ◌+◌, ap, sym, ◌∙◌, arith}
+use Rattle.std.proofs.Common.{sym, ◌∙◌, arith}
 use Rattle.std.proofs.lemmas.Result.{err_from_is_err_and}
-use Rattle.vh_tree.specs.Read.{after}
-use Rattle.vh_tree.specs.ReadDesign.{after_all}
 use Rattle.vhdl_read.proofs.Turns.{fails_on, after_next, after_missing, after_done}
 use Rattle.vhdl_read.proofs.token.after_all.Goals as goal
 
