@@ -1,0 +1,5 @@
+-- Lemmas that several proofs share.
+pub mod Runs
+pub mod Scanning
+pub mod Turns
+pub mod Answering

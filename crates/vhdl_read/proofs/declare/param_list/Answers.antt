@@ -1,0 +1,31 @@
+use Rattle.std.proofs.Common.{rules, ◌≡◌, length, ◌+◌, ◌-◌, true, false, drop, ap, sym, ◌∙◌, arith, Some}
+use Rattle.std.proofs.lemmas.Result.{err_from_is_err_and}
+use Rattle.vh_tree.specs.Read.{sees, separated_at}
+use Rattle.vh_tree.specs.ReadDesign.{param_at}
+use Rattle.vh_tree.specs.declared.token.Mark.TheVariants as m
+use Rattle.vhdl_read.proofs.Turns.{with_front, fails_on, separated_last, separated_step, separated_fail, separated_none, param_list_turns}
+use Rattle.vhdl_read.proofs.declare.param_list.Goals as goal
+
+pub returns-in_err-one : goal.returns-in_err-one
+returns-in_err-one c =
+    let p = err_from_is_err_and c.from_residual.result c.from_residual.ensures.1 in
+    rw (p.1, p.2) (fails_on c.in_err-one.field-0.0 (param_at c.loop-turn.rest.now) _ c.in_err-one.ensures
+    (λ h. param_list_turns c.args.tokens.now ∙ sym c.loop-turn.invariant ∙ separated_fail m.Semicolon param_at _ (length c.args.tokens.now - (c.loop-turn._turn + 1)) c.loop-turn.rest.now c.loop-turn.all (omega arith) h))
+
+pub returns-then-not-sees : goal.returns-then-not-sees
+returns-then-not-sees c =
+    let stop : sees m.Semicolon c.in_ok-one.behind.now ≡ false = search rules in
+    let last = separated_last m.Semicolon param_at (length c.args.tokens.now - c.loop-turn._turn) (length c.args.tokens.now - (c.loop-turn._turn + 1)) c.loop-turn.rest.now c.loop-turn.all c.in_ok-one.one c.in_ok-one.behind.now (omega arith) c.in_ok-one.ensures stop in
+    param_list_turns c.args.tokens.now ∙ sym c.loop-turn.invariant ∙ last ∙ ap (λ f. Some (f, c.in_ok-one.behind.now)) (sym c.in_ok-push.ensures.ok)
+
+pub loop-turn-preserved : goal.loop-turn-preserved
+loop-turn-preserved c =
+    let next = length c.args.tokens.now - (c.loop-turn._turn + 1) in
+    let more : sees m.Semicolon c.in_ok-one.behind.now ≡ true = search rules in
+    let step = separated_step m.Semicolon param_at (length c.args.tokens.now - c.loop-turn._turn) next c.loop-turn.rest.now c.loop-turn.all c.in_ok-one.one c.in_ok-one.behind.now (omega arith) c.in_ok-one.ensures more in
+    ap (λ r. with_front c.push.new.self (separated_at m.Semicolon param_at next r)) c.rest_of-rest.ensures
+    ∙ ap (λ f. with_front f (separated_at m.Semicolon param_at next (drop 1 c.in_ok-one.behind.now))) c.in_ok-push.ensures.ok ∙ step ∙ c.loop-turn.invariant
+
+pub returns : goal.returns
+returns c =
+    param_list_turns c.args.tokens.now ∙ sym c.loop-turn.invariant ∙ separated_none m.Semicolon param_at (length c.args.tokens.now - c.loop-turn._turn) c.loop-turn.rest.now c.loop-turn.all (omega arith)

@@ -1,0 +1,10 @@
+use Rattle.std.proofs.Common.{◌≡◌, length, ◌-◌}
+use Rattle.vh_tree.specs.Read.{sees, many_at}
+use Rattle.vh_tree.specs.ReadDesign.{process_at}
+use Rattle.vh_tree.specs.declared.token.Mark.TheVariants as m
+use Rattle.vhdl_read.proofs.Turns.{with_front}
+use Rattle.vhdl_read.proofs.process.processes.Given as goal
+
+-- what was read so far, put before what is read from here on, is what is read in all
+abbrev pub invariant-loop-turn : goal.invariant-loop-turn
+invariant-loop-turn l = with_front l.all (many_at (sees m.Process) (process_at l.levels) (l._turn-end - l._turn) l.rest) ≡ many_at (sees m.Process) (process_at l.levels) (length l.tokens) l.tokens

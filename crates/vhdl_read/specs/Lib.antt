@@ -1,0 +1,4 @@
+-- The words that contracts rest on.
+pub mod Given
+pub mod Kinds
+pub mod Reading
