@@ -1,5 +1,5 @@
 -- What the entries of a hash table say of a name.
-use Rattle.std.proofs.Common.{◌≡◌, ℕ, Bool, true, false, cond, List, [], ◌∷◌, map, Option, Some, None, refl, sym, ap, ◌∙◌, true≢false, if◌then◌else◌}
+use Rattle.std.proofs.Common.{◌≡◌, Bool, true, false, cond, List, [], ◌∷◌, map, Option, Some, refl, sym, ap, ◌∙◌, true≢false, if◌then◌else◌}
 use Rattle.indexmap.specs.IndexMap.{IndexMap, get_by, with_entries, insert_entry}
 use Rattle.vh_tree.specs.Bits.{Bytes, same_name}
 use Rattle.vh_static.specs.Tables.{known_in, put}

@@ -1,5 +1,5 @@
 -- What a table says of names.
-use Rattle.std.specs.Prelude.{ℕ, Bool, List, [], ◌∷◌, Option, Some, None, if◌then◌else◌}
+use Rattle.std.specs.Prelude.{List, [], ◌∷◌, Option, Some, None, if◌then◌else◌}
 use Rattle.vh_tree.specs.Bits.{Bytes, same_name}
 
 -- what each name has, if it has anything

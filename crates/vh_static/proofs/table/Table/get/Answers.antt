@@ -1,5 +1,5 @@
 -- The table says what its entries say.
-use Rattle.std.proofs.Common.{◌≡◌, ℕ, ◌∙◌, ap, Vec, Global}
+use Rattle.std.proofs.Common.{ℕ, ◌∙◌, ap, Vec, Global}
 use Rattle.vh_static.specs.Tables.{known_in}
 use Rattle.vh_static.proofs.Entries.{seen, found}
 use Rattle.vh_static.proofs.table.Table.get.Goals as goal

@@ -1,5 +1,5 @@
 -- The entries with one more say what the table said, and what is new.
-use Rattle.std.proofs.Common.{◌≡◌, ℕ, ◌∙◌, ap, Vec, Global}
+use Rattle.std.proofs.Common.{ℕ, ◌∙◌, ap, Vec, Global}
 use Rattle.vh_tree.specs.Bits.{Bytes}
 use Rattle.vh_static.specs.Tables.{known_in, put}
 use Rattle.vh_static.proofs.Entries.{seen, inserted}
