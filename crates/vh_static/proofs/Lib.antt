@@ -1,0 +1,9 @@
+pub mod Entries
+pub mod FromTheLast
+pub mod Here
+pub mod Items
+pub mod Parts
+pub mod Same
+pub mod Statements
+pub mod Widened
+pub mod Wired

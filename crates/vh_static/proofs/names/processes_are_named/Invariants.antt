@@ -1,0 +1,8 @@
+-- All that were passed are named well.
+use Rattle.std.proofs.Common.{◌≡◌, drop}
+use Rattle.std.specs.List.{list_all}
+use Rattle.vh_static.specs.Named.{process_well}
+use Rattle.vh_static.proofs.names.processes_are_named.Given as goal
+
+abbrev pub invariant-loop-process : goal.invariant-loop-process
+invariant-loop-process l = list_all (process_well l.items l.wires) (drop l.process-index l.processes) ≡ list_all (process_well l.items l.wires) l.processes

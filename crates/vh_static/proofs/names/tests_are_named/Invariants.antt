@@ -1,0 +1,8 @@
+-- All that were passed are named well.
+use Rattle.std.proofs.Common.{◌≡◌, drop}
+use Rattle.std.specs.List.{list_all}
+use Rattle.vh_static.specs.Rules.{tests_well}
+use Rattle.vh_static.proofs.names.tests_are_named.Given as goal
+
+abbrev pub invariant-loop-test : goal.invariant-loop-test
+invariant-loop-test l = list_all (tests_well l.items l.vars l.in_process) (drop l.test-index l.tests) ≡ list_all (tests_well l.items l.vars l.in_process) l.tests

@@ -1,0 +1,5 @@
+-- The words that contracts of this crate cite beside those of the designs.
+pub mod Measures
+pub mod Named
+pub mod Rules
+pub mod Tables
