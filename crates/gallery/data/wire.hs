@@ -1,0 +1,6 @@
+{ start :: ReT Bool Bool I () ;
+start = low ;
+low :: ReT Bool Bool I () ;
+low = signal False >>= \x -> case x of { False -> low ; True -> high } ;
+high :: ReT Bool Bool I () ;
+high = signal True >>= \x -> case x of { False -> low ; True -> high } }
