@@ -1,0 +1,6 @@
+pub mod Flat
+pub mod Delta
+pub mod Cycles
+pub mod Names
+pub mod Resolving
+pub mod Standing
