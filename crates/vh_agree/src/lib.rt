@@ -2,11 +2,11 @@
 //! calls over flat frames are calls of the design's functions.
 //!
 //! It holds laws alone: no call here does anything. `vh_standing` carries them to delta cycles. Begin with
-//! `specs/Agreeing.antt`, then `specs/Calling.antt`.
+//! `specs/Agreeing.antt` and `specs/Calling.antt` of `vh_flat`.
 #![tactic(auto)]
 
-ghost use Rattle.vh_agree.specs.Agreeing.{AgreeingExprLaw};
-ghost use Rattle.vh_agree.specs.Calling.{FramesLaw};
+ghost use Rattle.vh_flat.specs.Agreeing.{AgreeingExprLaw};
+ghost use Rattle.vh_flat.specs.Calling.{FramesLaw};
 
 /// Expressions of which the static rules hold mean the same in scopes that agree.
 pub fn agreement_law()

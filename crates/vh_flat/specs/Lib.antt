@@ -4,3 +4,5 @@ pub mod Cycles
 pub mod Names
 pub mod Resolving
 pub mod Standing
+pub mod Agreeing
+pub mod Calling
