@@ -8,8 +8,8 @@ ghost use Rattle.vh_flat.specs.Cycles.{State, delta_of, cycles_of, is_quiet, IsS
 use crate::delta::run_processes;
 use crate::leaves::{equal, part};
 use crate::process::{Process, World};
-use vh_tree::rising;
 use rw_base::Bit9;
+use vh_tree::rising;
 
 fn rises(last: &[Bit9], now: &[Bit9]) -> bool
     ensures { result ≡ rises_of last.now now.now }
@@ -43,7 +43,16 @@ fn any(pending: &[bool]) -> bool
 }
 
 /// One delta cycle, in the order of the text.
-fn delta(processes: &[Process], starting: &mut bool, now: &mut [Bit9], before: &mut [Bit9], next: &mut [Bit9], pending: &mut [bool], store: &mut [Bit9], out: &mut Vec<Bit9>)
+fn delta(
+    processes: &[Process],
+    starting: &mut bool,
+    now: &mut [Bit9],
+    before: &mut [Bit9],
+    next: &mut [Bit9],
+    pending: &mut [bool],
+    store: &mut [Bit9],
+    out: &mut Vec<Bit9>,
+)
     requires before_fits { length before.old ≡ length now.old }
     requires next_fits { length next.old ≡ length now.old }
     requires room { vec_len out.old + room_ran processes.now (length store.old) next.old ≤ vec_capacity out.old }
@@ -54,10 +63,14 @@ fn delta(processes: &[Process], starting: &mut bool, now: &mut [Bit9], before: &
     before.copy_from_slice(now);
     now.copy_from_slice(next);
     lower_all(pending);
-    let rising = !*starting && !equal(part(before, 0, 1), part(now, 0, 1)) && rises(part(before, 0, 1), part(now, 0, 1));
+    let rising = !*starting
+        && !equal(part(before, 0, 1), part(now, 0, 1))
+        && rises(part(before, 0, 1), part(now, 0, 1));
     let reset = equal(part(now, 1, 1), &[Bit9::One]);
     let w = World { rising, reset };
-    run_processes(processes, *starting, before, w, now, next, pending, store, out);
+    run_processes(
+        processes, *starting, before, w, now, next, pending, store, out,
+    );
     *starting = false;
 }
 
@@ -68,7 +81,16 @@ fn quiet(starting: bool, pending: &[bool]) -> bool
 }
 
 /// Runs delta cycles until nothing is pending, at most 64.
-pub fn settle(processes: &[Process], starting: &mut bool, now: &mut [Bit9], before: &mut [Bit9], next: &mut [Bit9], pending: &mut [bool], store: &mut [Bit9], out: &mut Vec<Bit9>) -> Option<u32>
+pub fn settle(
+    processes: &[Process],
+    starting: &mut bool,
+    now: &mut [Bit9],
+    before: &mut [Bit9],
+    next: &mut [Bit9],
+    pending: &mut [bool],
+    store: &mut [Bit9],
+    out: &mut Vec<Bit9>,
+) -> Option<u32>
     requires before_fits { length before.old ≡ length now.old }
     requires next_fits { length next.old ≡ length now.old }
     requires room { (frame : Bits) → vec_len out.old + room_ran processes.now (length store.old) frame ≤ vec_capacity out.old }

@@ -28,7 +28,13 @@ fn checks(check: &Check, w: World, now: &[Bit9], store: &mut [Bit9], out: &mut V
     }
 }
 
-fn all_check(tests: &[Check], w: World, now: &[Bit9], store: &mut [Bit9], out: &mut Vec<Bit9>) -> bool
+fn all_check(
+    tests: &[Check],
+    w: World,
+    now: &[Bit9],
+    store: &mut [Bit9],
+    out: &mut Vec<Bit9>,
+) -> bool
     requires { vec_len out.old + room_checks tests.now (length store.old) now.now ≤ vec_capacity out.old }
     ensures value { result ≡ all_hold tests.now w (length store.old) now.now }
     ensures same { out.new.items ≡ out.old.items }
@@ -43,7 +49,15 @@ fn all_check(tests: &[Check], w: World, now: &[Bit9], store: &mut [Bit9], out: &
 }
 
 #[cycle(drive)]
-fn drive_all(body: &[Drive], w: World, now: &[Bit9], next: &mut [Bit9], pending: &mut [bool], store: &mut [Bit9], out: &mut Vec<Bit9>)
+fn drive_all(
+    body: &[Drive],
+    w: World,
+    now: &[Bit9],
+    next: &mut [Bit9],
+    pending: &mut [bool],
+    store: &mut [Bit9],
+    out: &mut Vec<Bit9>,
+)
     requires { vec_len out.old + room_in_order (map drive_of body.now) (length store.old) now.now ≤ vec_capacity out.old }
     ensures value { record { next = next.new; pending = pending.new } ≡ in_order (map drive_of body.now) w (length store.old) now.now (record { next = next.old; pending = pending.old }) }
     ensures same { out.new.items ≡ out.old.items }
@@ -55,7 +69,15 @@ fn drive_all(body: &[Drive], w: World, now: &[Bit9], next: &mut [Bit9], pending:
 }
 
 #[cycle(drive)]
-fn drive(stmt: &Drive, w: World, now: &[Bit9], next: &mut [Bit9], pending: &mut [bool], store: &mut [Bit9], out: &mut Vec<Bit9>)
+fn drive(
+    stmt: &Drive,
+    w: World,
+    now: &[Bit9],
+    next: &mut [Bit9],
+    pending: &mut [bool],
+    store: &mut [Bit9],
+    out: &mut Vec<Bit9>,
+)
     requires { vec_len out.old + (drive_of stmt.now).room (length store.old) now.now ≤ vec_capacity out.old }
     ensures value { record { next = next.new; pending = pending.new } ≡ (drive_of stmt.now).after w (length store.old) now.now (record { next = next.old; pending = pending.old }) }
     ensures same { out.new.items ≡ out.old.items }
@@ -85,14 +107,27 @@ fn event(now: &[Bit9], before: &[Bit9], places: &[Place]) -> bool
     ensures { result ≡ has_event now.now before.now places.now }
 {
     for place in places {
-        if !equal(part(now, place.from, place.len), part(before, place.from, place.len)) {
+        if !equal(
+            part(now, place.from, place.len),
+            part(before, place.from, place.len),
+        ) {
             return true;
         }
     }
     false
 }
 
-pub fn run_processes(processes: &[Process], starting: bool, before: &[Bit9], w: World, now: &[Bit9], next: &mut [Bit9], pending: &mut [bool], store: &mut [Bit9], out: &mut Vec<Bit9>)
+pub fn run_processes(
+    processes: &[Process],
+    starting: bool,
+    before: &[Bit9],
+    w: World,
+    now: &[Bit9],
+    next: &mut [Bit9],
+    pending: &mut [bool],
+    store: &mut [Bit9],
+    out: &mut Vec<Bit9>,
+)
     requires { vec_len out.old + room_ran processes.now (length store.old) now.now ≤ vec_capacity out.old }
     ensures value { record { next = next.new; pending = pending.new } ≡ ran processes.now starting before.now w (length store.old) now.now (record { next = next.old; pending = pending.old }) }
     ensures same { out.new.items ≡ out.old.items }

@@ -1,4 +1,4 @@
-ghost use Rattle.std.specs.Prelude.{◌≡◌, ◌≤◌, ◌+◌, ◌++◌, length, vec_len, vec_capacity, replicate};
+ghost use Rattle.std.specs.Prelude.{◌≡◌, ◌≤◌, ◌+◌, ◌++◌, length, vec_len, vec_capacity, replicate, take, drop};
 ghost use Rattle.vh_tree.specs.Bits.{same_bits, slice_of};
 ghost use Rattle.vh_flat.specs.Flat.{part_of, written, entered};
 ghost use Rattle.rw_base.specs.declared.bit.Bit9.TheVariants.{U};
@@ -59,4 +59,16 @@ pub fn slice(bits: &[Bit9], high: u32, low: u32) -> &[Bit9]
     let end = high as usize + 1;
     let rest = &bits[bits.len().saturating_sub(end)..];
     &rest[..rest.len().min(end.saturating_sub(low as usize))]
+}
+
+pub fn cut(out: &mut Vec<Bit9>, start: usize, high: u32, low: u32)
+    requires { start ≤ vec_len out.old }
+    ensures value { out.new.items ≡ take start out.old.items ++ slice_of high low (drop start out.old.items) }
+    ensures capacity { vec_capacity out.new ≡ vec_capacity out.old }
+{
+    let end = high as usize + 1;
+    let first = start + (out.len() - start).saturating_sub(end);
+    let len = (out.len() - first).min(end.saturating_sub(low as usize));
+    out.copy_within(first..first + len, start);
+    out.truncate(start + len);
 }

@@ -2,7 +2,7 @@ ghost use Rattle.std.specs.Prelude.{◌≡◌, ◌≤◌, ◌+◌, ◌++◌, len
 ghost use Rattle.vh_flat.specs.Flat.{expr_of, stmt_of, branch_of, fun_of, test_of, joined, room_joined, in_order, room_in_order};
 ghost use Rattle.vh_flat.specs.Flat.{room_tests, all_hold as all_of, called, room_called};
 
-use crate::leaves::{append, enter, equal, part, put, slice};
+use crate::leaves::{append, cut, enter, equal, part, put, slice};
 use crate::{Expr, Fun, Stmt, Test};
 use rw_base::Bit9;
 
@@ -15,7 +15,15 @@ pub fn append_expr(out: &mut Vec<Bit9>, e: &Expr, frame: &[Bit9], store: &mut [B
 {
     match e {
         Expr::Part(from, len) => append(out, part(frame, *from, *len)),
-        Expr::Slice(from, len, high, low) => append(out, slice(part(frame, *from, *len), *high, *low)),
+        Expr::Slice(from, len, high, low) => append(
+            out,
+            slice(part(frame, *from, *len), *high, *low),
+        ),
+        Expr::Cut(inner, high, low) => {
+            let start = out.len();
+            append_expr(out, inner.get(), frame, store);
+            cut(out, start, *high, *low);
+        }
         Expr::Literal(bits) => append(out, bits.as_slice()),
         Expr::Join(parts) => append_all(out, parts.as_slice(), frame, store),
         Expr::Call(fun, args) => {
