@@ -5,7 +5,7 @@ use Rattle.vh_tree.specs.Bits.{Bits, same_bits}
 use Rattle.vh_tree.specs.DeltaCycle.{rises}
 use Rattle.rw_base.specs.declared.bit.Bit9.TheVariants.{One}
 use Rattle.vh_flat.specs.Flat.{part_of}
-use Rattle.vh_flat.specs.Delta.{Coming, ran}
+use Rattle.vh_flat.specs.Delta.{ran}
 use Rattle.vh_flat.specs.declared.process.Process.{Process}
 use Rattle.vh_flat.specs.declared.process.World.{World}
 

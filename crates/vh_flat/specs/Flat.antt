@@ -1,5 +1,5 @@
 -- What resolved expressions, statements and functions mean, over flat lists of bits.
-use Rattle.std.specs.Prelude.{ℕ, ◌+◌, ◌-◌, List, [], ◌∷◌, ◌++◌, length, take, drop, map, replicate, min, max, Bool, true, false, ◌&&◌, if◌then◌else◌}
+use Rattle.std.specs.Prelude.{ℕ, ◌+◌, ◌-◌, List, [], ◌∷◌, ◌++◌, length, take, drop, replicate, min, max, Bool, true, false, if◌then◌else◌}
 use Rattle.vh_tree.specs.Bits.{Bits, same_bits, slice_of}
 use Rattle.rw_base.specs.declared.bit.Bit9.TheVariants.{U}
 use Rattle.vh_flat.specs.declared.resolved.Expr.{Expr}

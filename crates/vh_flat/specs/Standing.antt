@@ -1,5 +1,5 @@
 -- What flat buffers stand for: the ports and signals of a design, with their current and pending values.
-use Rattle.std.specs.Prelude.{◌≡◌, ℕ, List, [], ◌∷◌, length, take, drop, Bool, true, false, Some, None}
+use Rattle.std.specs.Prelude.{◌≡◌, List, [], ◌∷◌, length, take, drop, Bool, true, false, Some, None}
 use Rattle.vh_tree.specs.Bits.{Bits}
 use Rattle.vh_tree.specs.DeltaCycle.{Wires, delta_cycle}
 use Rattle.vh_tree.specs.StaticRules.{IsStatic, process_vars}
