@@ -1,7 +1,7 @@
 // From the bytes of a trace to the bits of its lines.
-ghost use Rattle.std.specs.Prelude.{◌≡◌, ◌≢◌, ◌∷◌, [], ◌<◌, ◌≤◌, map, length, take, drop, nat_eq, IfOk, MatchOption, None, Some};
+ghost use Rattle.std.specs.Prelude.{◌≡◌, ◌≢◌, ◌∷◌, [], ◌<◌, ◌≤◌, map, length, take, drop, nat_eq, true, IfOk, MatchOption, None, Some};
 ghost use Rattle.std.specs.List.{list_all};
-ghost use Rattle.rw_trace.specs.Traces.{Answers, trace_of, lines_of, line_read, ends_in, front_of, characters, is_bit, bits_of};
+ghost use Rattle.rw_trace.specs.Traces.{Answers, most_lines, trace_of, lines_of, line_read, ends_in, front_of, characters, is_bit, bits_of};
 
 use crate::TraceFail;
 use rw_base::OutOfMemory;
@@ -91,6 +91,7 @@ fn read_line(
 ) -> Result<Option<Vec<bool>>, OutOfMemory>
     ensures read { IfOk result (λ bits. MatchOption bits (line_read width number last line.now ≡ None) (λ found. line_read width number last line.now ≡ Some found.items)) }
     ensures few { IfOk result (λ bits. MatchOption bits (Unit {0}) (λ _. number ≤ 1048576)) }
+    ensures wide { IfOk result (λ bits. MatchOption bits (Unit {0}) (λ found. length found.items ≡ width)) }
 {
     let characters = characters_of(line);
     if number > MOST_LINES
@@ -108,7 +109,10 @@ fn read_line(
 /// that isn't of this form, of which a byte lies past the first 16,777,216 bytes, or that is past the first 1,048,576
 /// lines; the LF and a dropped CR are bytes of their line.
 pub fn to_bits(alloc: Global, bytes: &[u8], width: u32) -> Result<Vec<Vec<bool>>, TraceFail>
-    ensures { Answers (λ lines. map (λ bits. bits.items) lines.items) result (trace_of width bytes.now) }
+    ensures answers { Answers (λ lines. map (λ bits. bits.items) lines.items) result (trace_of width bytes.now) }
+    // Each line has so many bits, and there are at most so many lines.
+    ensures widths { IfOk result (λ lines. list_all (λ bits. nat_eq (length bits.items) width) lines.items ≡ true) }
+    ensures few { IfOk result (λ lines. length lines.items ≤ most_lines) }
 {
     let mut lines = Vec::new(alloc);
     let mut rest = bytes;

@@ -22,6 +22,8 @@ loop-rest-preserved c =
     record {
       within = omega (arith, c.split_at.ensures.back_len, c.loop-rest.invariant.within);
       few = omega (arith, few);
+      counted = grind (arith, common_steps);
+      widths = grind (arith, common_steps);
       whole =
           ap (λ d. read_behind d (lines_read width (number + 1) last (lines_of later))) all
           ∙ line_more done c.in-Some.bits.items width number behind last line rest later cut end read
