@@ -3,3 +3,4 @@ pub mod Runs
 pub mod Scanning
 pub mod Turns
 pub mod Answering
+pub mod Judging

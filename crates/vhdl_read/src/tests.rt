@@ -1,6 +1,6 @@
 // A text and its answers: worked examples, and what is refused with which rule.
 
-use crate::{ReadFail, read_spelled};
+use crate::{VFail, read_spelled};
 use rw_base::VRule;
 use std::alloc::Global;
 use std::test::Fail;
@@ -72,7 +72,7 @@ const SWITCH: &[u8] = b"\
 const LAST_LINES: usize = 30;
 
 // Why a text is refused, if it is.
-fn refusal(alloc: Global, text: &[u8]) -> Option<ReadFail> {
+fn refusal(alloc: Global, text: &[u8]) -> Option<VFail> {
     match read_spelled(alloc, text) {
         Ok(_) => None,
         Err(fail) => Some(fail),
@@ -97,15 +97,12 @@ fn two_state_switch(rt: HostRuntime) -> Result<(), Fail> {
 fn texts_refused(rt: HostRuntime) -> Result<(), Fail> {
     let alloc = rt.alloc();
     let (front, _) = SWITCH.split_at(SWITCH.len().saturating_sub(LAST_LINES));
-    assert_eq!(rt; refusal(alloc, front), Some(ReadFail::Refused(VRule::V3)));
-    assert_eq!(rt; refusal(alloc, b""), Some(ReadFail::Refused(VRule::V3)));
+    assert_eq!(rt; refusal(alloc, front), Some(VFail::Refused(VRule::V3)));
+    assert_eq!(rt; refusal(alloc, b""), Some(VFail::Refused(VRule::V3)));
     assert_eq!(rt;
         refusal(alloc, b"library ieee_"),
-        Some(ReadFail::Refused(VRule::V2))
+        Some(VFail::Refused(VRule::V2))
     );
-    assert_eq!(rt;
-        refusal(alloc, b"01 \xc8"),
-        Some(ReadFail::Refused(VRule::V1))
-    );
+    assert_eq!(rt; refusal(alloc, b"01 \xc8"), Some(VFail::Refused(VRule::V1)));
     Ok(())
 }

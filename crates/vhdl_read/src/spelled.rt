@@ -5,14 +5,15 @@ ghost use Rattle.vh_tree.specs.declared.design.Design.{Design};
 ghost use Rattle.vh_tree.specs.Text as text;
 ghost use Rattle.vh_tree.specs.Spelling.{IsSpelled, BreaksBytes, BreaksTokens, BreaksGrammar};
 ghost use Rattle.vhdl_read.specs.Reading.{IsAnswer, IsUnlessMemory};
-ghost use Rattle.vhdl_read.specs.declared.fail.ReadFail.TheVariants as fail;
+ghost use Rattle.vh_static.specs.declared.fail.VFail.TheVariants as fail;
 
+use crate::Unread;
 use crate::class::is_allowed;
 use crate::design::whole_design;
 use crate::scan::scan;
-use crate::{ReadFail, Unread};
 use rw_base::VRule;
 use std::alloc::Global;
+use vh_static::VFail;
 use vh_tree::{Design, designs_are_read, one_design_for_a_text, tokens_are_scanned};
 
 // V1 is kept: every byte may stand in a text.
@@ -24,7 +25,7 @@ fn all_allowed(bytes: &[u8]) -> bool
 
 // A text whose bytes are allowed.
 #[tactic(auto, using(crate::proofs::Answering::tokens_refused, crate::proofs::Answering::grammar_refused, crate::proofs::Answering::design_found))]
-fn read_allowed(alloc: Global, bytes: &[u8]) -> Result<Design, ReadFail>
+fn read_allowed(alloc: Global, bytes: &[u8]) -> Result<Design, VFail>
     requires { text.all_allowed bytes.now ≡ true }
     ensures { IsAnswer bytes.now result }
 {
@@ -32,30 +33,30 @@ fn read_allowed(alloc: Global, bytes: &[u8]) -> Result<Design, ReadFail>
     designs_are_read();
     let tokens = match scan(alloc, bytes) {
         Ok(tokens) => tokens,
-        Err(Unread::NotSpelled) => return Err(ReadFail::Refused(VRule::V2)),
-        Err(Unread::OutOfMemory) => return Err(ReadFail::OutOfMemory),
+        Err(Unread::NotSpelled) => return Err(VFail::Refused(VRule::V2)),
+        Err(Unread::OutOfMemory) => return Err(VFail::OutOfMemory),
     };
     match whole_design(alloc, tokens.as_slice()) {
         Ok(design) => Ok(design),
-        Err(Unread::NotSpelled) => Err(ReadFail::Refused(VRule::V3)),
-        Err(Unread::OutOfMemory) => Err(ReadFail::OutOfMemory),
+        Err(Unread::NotSpelled) => Err(VFail::Refused(VRule::V3)),
+        Err(Unread::OutOfMemory) => Err(VFail::OutOfMemory),
     }
 }
 
-fn answer(alloc: Global, bytes: &[u8]) -> Result<Design, ReadFail>
+fn answer(alloc: Global, bytes: &[u8]) -> Result<Design, VFail>
     ensures { IsAnswer bytes.now result }
 {
     if all_allowed(bytes) {
         read_allowed(alloc, bytes)
     } else {
-        Err(ReadFail::Refused(VRule::V1))
+        Err(VFail::Refused(VRule::V1))
     }
 }
 
 /// The design that a text spells, in the subset of IEEE Std 1076-1993. The text is any list of bytes. It is refused
 /// with V1 where a byte stands anywhere that no text has, else with V2 where it is no list of tokens, else with V3 where
 /// its tokens are not of the grammar, or nest more than 4,096 levels. The static rules V4 to V8 are not judged here.
-pub fn read_spelled(alloc: Global, bytes: &[u8]) -> Result<Design, ReadFail>
+pub fn read_spelled(alloc: Global, bytes: &[u8]) -> Result<Design, VFail>
     // What is read is spelled, and a rule that is named is the first one broken.
     ensures answer { IsAnswer bytes.now result }
     // What is spelled is read, unless memory runs out.

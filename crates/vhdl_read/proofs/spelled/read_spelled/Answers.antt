@@ -1,6 +1,6 @@
 -- By what the answer is.
 use Rattle.vhdl_read.proofs.Answering.{answer_spelled, answer_bytes, answer_tokens, answer_grammar}
-use Rattle.vhdl_read.proofs.read.read_spelled.Goals as goal
+use Rattle.vhdl_read.proofs.spelled.read_spelled.Goals as goal
 
 pub returns-clause-spelled : goal.returns-clause-spelled
 returns-clause-spelled c = answer_spelled c.one_design_for_a_text.ensures c.tokens_are_scanned.ensures c.args.bytes.now c.answer.result c.answer.ensures
