@@ -1,0 +1,6 @@
+-- Lemmas: lists with bits written into them, places of names, and then what buffers stand for.
+pub mod Parts
+pub mod Places
+pub mod Reading
+pub mod Moving
+pub mod Writing
