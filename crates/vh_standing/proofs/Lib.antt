@@ -4,3 +4,9 @@ pub mod Places
 pub mod Reading
 pub mod Moving
 pub mod Writing
+pub mod Events
+pub mod Quiet
+pub mod Usable
+pub mod Scopes
+pub mod Processes
+pub mod Cycle

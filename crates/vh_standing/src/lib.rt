@@ -4,9 +4,14 @@
 //! `vh_flat`.
 #![tactic(auto)]
 
-ghost use Rattle.vh_flat.specs.Standing.{DeltaLaw};
+ghost use Rattle.vh_flat.specs.Standing.{DeltaLaw, QuietLaw};
 
 /// A delta cycle over flat buffers is the design's, in the order of the text.
 pub fn delta_law()
     ensures { DeltaLaw }
+{}
+
+/// Buffers are quiet exactly where the state is for which they stand.
+pub fn quiet_law()
+    ensures { QuietLaw }
 {}
