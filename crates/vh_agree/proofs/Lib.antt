@@ -1,0 +1,3 @@
+-- Lemmas: on expressions, on statements, and then on calls.
+pub mod Expressions
+pub mod Statements
