@@ -1,5 +1,5 @@
 -- Statements of which the static rules hold do the same in worlds that agree.
-use Rattle.std.proofs.Common.{◌≡◌, ℕ, List, [], ◌∷◌, Bool, true, false, ◌&&◌, refl, ap, sym, subst, ◌∙◌, map, length, Option, Some, None, if◌then◌else◌, eqb→eq, T as IsSo}
+use Rattle.std.proofs.Common.{◌≡◌, ℕ, List, [], ◌∷◌, Bool, true, false, ◌&&◌, refl, ap, sym, subst, ◌∙◌, map, length, Some, None, if◌then◌else◌, eqb→eq, T as IsSo}
 use Rattle.std.specs.List.{list_all, AllByRecursion}
 use Rattle.vh_tree.specs.Bits.{Bytes, Bits, same_bits}
 use Rattle.vh_tree.specs.Functions.{World, Effect, Choice, expr_of, test_holds, stmt_of, branch_of, stmts_of, first_taken}
@@ -25,7 +25,7 @@ of_target (Some m) None n value is a h = absurd h
 of_target (Some m) (Some k) n value is a h = h ∙ sym (eqb→eq m k (subst IsSo (sym a) tt))
 
 module _ {S T : Type 0} (R : S → T → Type 0) (names : Names) (assignable usable : Bytes → Bool) (ws : Widths) (v : World S) (w : World T)
-    (agree_ : WorldsAgree S T R names assignable usable ws v w) (in_process : Bool) where
+    (alike : WorldsAgree S T R names assignable usable ws v w) (in_process : Bool) where
   abbrev named : Bytes → VExpr → Bool
   named x e = assignable x && names_well names e
 
@@ -65,11 +65,11 @@ module _ {S T : Type 0} (R : S → T → Type 0) (names : Names) (assignable usa
       let well = both_right (assignable x) (names_well names e) n' in
       let fits = both_left (measured ws e).fits (agree (ws.named x) (measured ws e).width) f' in
       let target = both_left (assignable x) (names_well names e) n' in
-      let one : expr_of e (v.scope s) ≡ expr_of e (w.scope t) = agrees names usable ws (v.scope s) (w.scope t) (agree_.scopes s t r) (agree_.widths s t r) e well u' fits in
-      let wide : HasWidth (ws.named x) (expr_of e (w.scope t)) = of_target (ws.named x) (measured ws e).width (agree_.targets x target).0 (expr_of e (w.scope t)) (agree_.targets x target).1
-      (both_right (measured ws e).fits (agree (ws.named x) (measured ws e).width) f') (has_width names usable ws (w.scope t) (agree_.widths s t r) e well u' fits) in
+      let one : expr_of e (v.scope s) ≡ expr_of e (w.scope t) = agrees names usable ws (v.scope s) (w.scope t) (alike.scopes s t r) (alike.widths s t r) e well u' fits in
+      let wide : HasWidth (ws.named x) (expr_of e (w.scope t)) = of_target (ws.named x) (measured ws e).width (alike.targets x target).0 (expr_of e (w.scope t)) (alike.targets x target).1
+      (both_right (measured ws e).fits (agree (ws.named x) (measured ws e).width) f') (has_width names usable ws (w.scope t) (alike.widths s t r) e well u' fits) in
       subst (λ (a : S). R a (stmt_of T (Assign x e) w t)) (sym (stmt_of-Assign S x e v s ∙ ap (λ (value : Bits). v.assign x value s) one))
-      (subst (R (v.assign x (expr_of e (w.scope t)) s)) (sym (stmt_of-Assign T x e w t)) (agree_.assign x target (expr_of e (w.scope t)) wide s t r))
+      (subst (R (v.assign x (expr_of e (w.scope t)) s)) (sym (stmt_of-Assign T x e w t)) (alike.assign x target (expr_of e (w.scope t)) wide s t r))
 
   order_same : (body : List VStmt) → AllByRecursion StmtSame body → all_true (map (keeps named named_test) body) ≡ true → all_true (map (keeps early early_test) body) ≡ true →
       all_true (map (keeps fit fit_test) body) ≡ true → Same (stmts_of S body) (stmts_of T body)
@@ -83,9 +83,9 @@ module _ {S T : Type 0} (R : S → T → Type 0) (names : Names) (assignable usa
   test_same : (test : Test) → named_test test ≡ true → early_test test ≡ true → fit_test test ≡ true → (s : S) (t : T) → R s t → test_holds S test v s ≡ test_holds T test w t
   test_same (Equal e bits) n u f s t r =
       ap (λ (value : Bits). same_bits value bits)
-      (agrees names usable ws (v.scope s) (w.scope t) (agree_.scopes s t r) (agree_.widths s t r) e n u (both_left (measured ws e).fits (agree (Some (length bits)) (measured ws e).width) f))
-  test_same Rising n u f s t r = agree_.rising
-  test_same Reset n u f s t r = agree_.reset
+      (agrees names usable ws (v.scope s) (w.scope t) (alike.scopes s t r) (alike.widths s t r) e n u (both_left (measured ws e).fits (agree (Some (length bits)) (measured ws e).width) f))
+  test_same Rising n u f s t r = alike.rising
+  test_same Reset n u f s t r = alike.reset
 
   tests_same : (ts : List Test) → list_all named_test ts ≡ true → list_all early_test ts ≡ true → list_all fit_test ts ≡ true → (s : S) (t : T) → R s t → tested S ts v s ≡ tested T ts w t
   tests_same [] n u f s t r = refl
