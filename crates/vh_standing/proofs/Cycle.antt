@@ -1,22 +1,20 @@
 -- A delta cycle over buffers is the design's.
-use Rattle.std.proofs.Common.{◌≡◌, ℕ, List, length, map, replicate, Bool, true, false, not, ◌&&◌, None, refl, ap, sym, ◌∙◌, subst, arith}
+use Rattle.std.proofs.Common.{◌≡◌, List, length, map, replicate, true, false, ◌&&◌, None, ap, sym, ◌∙◌, subst, arith}
 use Rattle.std.proofs.lemmas.List.{length-replicate}
 use Rattle.std.specs.List.{list_all}
-use Rattle.vh_tree.specs.Bits.{Bits}
 use Rattle.vh_tree.specs.Functions.{calls_of}
 use Rattle.vh_tree.specs.DeltaCycle.{Wires, seen, moved, moment_of, all_effects}
 use Rattle.vh_tree.specs.StaticRules.{are_distinct, item_names, functions_of, function_names_well, process_names_well, process_vars, widths_in_process, stmt_fits, is_width, items_fit, shapes_of, IsStatic}
 use Rattle.vh_tree.specs.declared.function.Var.{Var}
 use Rattle.vh_tree.specs.declared.process.Process.{Process as Named}
 use Rattle.vh_tree.specs.declared.wire.Moment.{Moment}
-use Rattle.vh_tree.specs.declared.wire.State.{State as Stands}
 use Rattle.vh_tree.specs.declared.design.Design.{Design}
 use Rattle.vh_tree.proofs.Comparisons.{both_right, not_false}
 use Rattle.vh_flat.specs.Agreeing.{AgreeingStmtsLaw}
 use Rattle.vh_flat.specs.Calling.{FramesGive, FramesLaw}
 use Rattle.vh_flat.specs.Cycles.{State, delta_of, world_of}
 use Rattle.vh_flat.specs.Delta.{Coming, ran}
-use Rattle.vh_flat.specs.Names.{no_frames, total_width}
+use Rattle.vh_flat.specs.Names.{no_frames}
 use Rattle.vh_flat.specs.Resolving.{IsResolved, frames_after}
 use Rattle.vh_flat.specs.Standing.{wires_at, state_at, FitsDesign, DeltaLaw}
 use Rattle.vh_flat.specs.declared.slot.Resolved.{Resolved}

@@ -1,8 +1,7 @@
 -- Which processes run, by the places that they hear and by the names.
-use Rattle.std.proofs.Common.{◌≡◌, ℕ, List, [], ◌∷◌, Bool, true, false, not, ◌&&◌, ◌||◌, Option, Some, None, refl, ap, sym, ◌∙◌, subst, if◌then◌else◌, nat_eq}
+use Rattle.std.proofs.Common.{◌≡◌, ℕ, List, [], ◌∷◌, Bool, true, false, not, ◌&&◌, ◌||◌, Option, refl, ap, sym, ◌∙◌, nat_eq}
 use Rattle.std.proofs.lemmas.Bool.{eq-eqb, eqb-true}
 use Rattle.std.specs.List.{list_any}
-use Rattle.rw_base.specs.declared.bit.Bit9.{Bit9}
 use Rattle.vh_tree.specs.Bits.{Bytes, Bits, bit_number, same_bit, same_bits}
 use Rattle.vh_tree.specs.DeltaCycle.{seen_at, has_event, runs}
 use Rattle.vh_tree.specs.declared.function.Var.{Var}

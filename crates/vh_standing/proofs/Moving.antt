@@ -1,5 +1,5 @@
 -- What is pending becomes current, and then nothing is.
-use Rattle.std.proofs.Common.{◌≡◌, ℕ, zero, suc, List, [], ◌∷◌, length, map, take, drop, replicate, Bool, true, false, refl, ap, sym, ◌∙◌, arith}
+use Rattle.std.proofs.Common.{◌≡◌, List, [], ◌∷◌, length, map, take, drop, replicate, Bool, true, false, refl, ap, sym, ◌∙◌}
 use Rattle.vh_tree.specs.Bits.{Bits}
 use Rattle.vh_tree.specs.DeltaCycle.{Wires, moved}
 use Rattle.vh_tree.specs.declared.function.Var.{Var}

@@ -1,5 +1,5 @@
 -- Bits written into a list: what stands before them and behind, and what one written further on leaves alone.
-use Rattle.std.proofs.Common.{◌≡◌, ℕ, suc, ◌+◌, ◌-◌, ◌≤◌, ◌<◌, List, [], ◌∷◌, ◌++◌, length, take, drop, set, Bool, true, nat_lt, refl, ap, sym, ◌∙◌, arith, length-append, length-take, length-drop}
+use Rattle.std.proofs.Common.{◌≡◌, ℕ, suc, ◌+◌, ◌-◌, ◌≤◌, List, ◌∷◌, ◌++◌, length, take, drop, set, Bool, true, nat_lt, refl, ap, sym, ◌∙◌, arith, length-append, length-take, length-drop}
 use Rattle.std.proofs.lemmas.Bool.{cond_both, ltb-false}
 use Rattle.std.proofs.lemmas.List.{take_all, take_at, drop_at, take-append-le, take-take, drop-drop, drop-append-le, drop-take, set_past, length-set}
 use Rattle.vh_tree.specs.Bits.{Bits}

@@ -1,5 +1,5 @@
 -- The place of a name among names that stand one after another: its number, where its bits begin, and how many they are.
-use Rattle.std.proofs.Common.{◌≡◌, ℕ, zero, suc, ◌+◌, ◌≤◌, List, [], ◌∷◌, ◌⊎◌, inl, inr, Bool, true, false, ◌||◌, Option, Some, None, is_none, refl, ap, sym, ◌∙◌, subst, arith, if◌then◌else◌}
+use Rattle.std.proofs.Common.{◌≡◌, ℕ, suc, ◌+◌, ◌≤◌, List, [], ◌∷◌, Bool, true, false, ◌||◌, Option, Some, None, refl, ap, sym, ◌∙◌, subst, arith, if◌then◌else◌}
 use mathlib.Core.Bool.{true≢false}
 use Rattle.vh_tree.specs.Bits.{Bytes, same_name, is_among}
 use Rattle.vh_tree.specs.StaticRules.{names_of, width_among}

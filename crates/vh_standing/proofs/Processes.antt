@@ -1,11 +1,11 @@
 -- What processes do to buffers, they do to the ports and signals for which these stand.
-use Rattle.std.proofs.Common.{◌≡◌, ℕ, List, [], ◌∷◌, length, Bool, true, false, ◌&&◌, ◌||◌, Option, Some, None, refl, ap, sym, ◌∙◌, subst, arith, if◌then◌else◌, map}
+use Rattle.std.proofs.Common.{◌≡◌, ℕ, List, [], ◌∷◌, length, Bool, true, false, ◌&&◌, ◌||◌, Option, Some, refl, ap, sym, ◌∙◌, subst, arith, if◌then◌else◌, map}
 use mathlib.Core.Bool.{true≢false}
 use Rattle.std.specs.List.{list_all}
 use Rattle.vh_tree.specs.Bits.{Bytes, Bits, is_among}
 use Rattle.vh_tree.specs.Functions.{World, stmts_of, calls_of}
 use Rattle.vh_tree.specs.DeltaCycle.{Wires, put, process_world, process_effect, all_effects, runs}
-use Rattle.vh_tree.specs.StaticRules.{Width, names_of, width_among, heard_names, driven_names, are_distinct, names_in_process, process_vars, widths_in_process, process_names_well, stmt_names_well, stmt_fits, shapes_of, IsStatic}
+use Rattle.vh_tree.specs.StaticRules.{names_of, width_among, heard_names, driven_names, are_distinct, names_in_process, process_vars, widths_in_process, process_names_well, stmt_names_well, stmt_fits, shapes_of, IsStatic}
 use Rattle.vh_tree.specs.Widths.{HasWidth}
 use Rattle.vh_tree.specs.declared.function.Var.{Var}
 use Rattle.vh_tree.specs.declared.process.Process.{Process as Named}

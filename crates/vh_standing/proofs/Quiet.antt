@@ -1,5 +1,5 @@
 -- Buffers are quiet where the state is for which they stand.
-use Rattle.std.proofs.Common.{◌≡◌, ℕ, List, [], ◌∷◌, length, take, drop, Bool, true, false, not, ◌&&◌, refl, ap, sym, ◌∙◌, arith, is_none}
+use Rattle.std.proofs.Common.{◌≡◌, List, [], ◌∷◌, length, drop, Bool, true, false, not, ◌&&◌, refl, ap, arith, is_none}
 use Rattle.std.specs.List.{list_any, list_all}
 use Rattle.vh_tree.specs.Bits.{Bits}
 use Rattle.vh_tree.specs.StaticRules.{process_vars}

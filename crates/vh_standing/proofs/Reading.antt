@@ -1,5 +1,5 @@
 -- What is read of buffers, by places and by names.
-use Rattle.std.proofs.Common.{◌≡◌, ℕ, zero, suc, ◌+◌, List, [], ◌∷◌, length, take, drop, ◌⊎◌, inl, inr, Bool, true, false, ◌||◌, Option, Some, None, refl, ap, sym, ◌∙◌, subst, arith, if◌then◌else◌, length-take, length-drop}
+use Rattle.std.proofs.Common.{◌≡◌, ℕ, List, [], ◌∷◌, length, take, drop, Bool, true, false, ◌||◌, Option, refl, ap, sym, ◌∙◌, arith, if◌then◌else◌, length-take, length-drop}
 use Rattle.std.proofs.lemmas.List.{drop-drop}
 use mathlib.Core.Bool.{true≢false}
 use Rattle.vh_tree.specs.Bits.{Bytes, Bits, same_name, is_among}

@@ -1,9 +1,9 @@
 -- What a process reads in a cycle: from buffers, and from the ports and signals for which they stand.
-use Rattle.std.proofs.Common.{◌≡◌, ℕ, List, [], ◌∷◌, length, map, Bool, true, false, ◌||◌, ◌⊎◌, inl, inr, Option, Some, None, refl, ap, sym, ◌∙◌, subst, arith, codes}
+use Rattle.std.proofs.Common.{◌≡◌, ℕ, List, [], ◌∷◌, length, true, ◌⊎◌, inl, inr, Option, Some, None, refl, sym, ◌∙◌, arith, codes}
 use mathlib.Core.Bool.{true≢false}
 use Rattle.vh_tree.specs.Bits.{Bytes, Bits, same_name, is_among}
-use Rattle.vh_tree.specs.Functions.{Calls, Scope, Store, scope_in, calls_of}
-use Rattle.vh_tree.specs.StaticRules.{Shape, has_arity, names_of, signal_names, driven_names, names_in_process, process_vars, widths_in_process, shapes_of, IsStatic}
+use Rattle.vh_tree.specs.Functions.{scope_in, calls_of}
+use Rattle.vh_tree.specs.StaticRules.{Shape, names_of, signal_names, driven_names, names_in_process, process_vars, widths_in_process, shapes_of, IsStatic}
 use Rattle.vh_tree.specs.Widths.{GivesWidth, KeepsWidths}
 use Rattle.vh_tree.specs.declared.design.Design.{Design}
 use Rattle.vh_tree.proofs.Comparisons.{either_cases, either_left, either_right}

@@ -1,7 +1,7 @@
 -- In a process, behind all functions, each may be used.
-use Rattle.std.proofs.Common.{◌≡◌, List, [], ◌∷◌, map, Bool, true, false, ◌&&◌, refl, sym, ◌∙◌}
+use Rattle.std.proofs.Common.{◌≡◌, List, [], ◌∷◌, map, Bool, true, refl, ◌∙◌}
 use Rattle.std.specs.List.{list_all, AllByRecursion}
-use Rattle.vh_tree.specs.Bits.{Bytes, Bits}
+use Rattle.vh_tree.specs.Bits.{Bytes}
 use Rattle.vh_tree.specs.StaticRules.{all_true, keeps, test_keeps, uses_earlier, stmt_uses_earlier}
 use Rattle.vh_tree.specs.Equations.{uses_earlier-Name, uses_earlier-Slice, uses_earlier-Literal, uses_earlier-Call, uses_earlier-Join, keeps-Assign, keeps-If, branch_keeps, branch_keeps-Branch}
 use Rattle.vh_tree.specs.Induction.{every_expr, every_stmt}
@@ -9,7 +9,6 @@ use Rattle.vh_tree.specs.declared.expr.VExpr.{VExpr}
 use Rattle.vh_tree.specs.declared.stmt.Test.{Test}
 use Rattle.vh_tree.specs.declared.stmt.Test.TheVariants.{Equal, Rising, Reset}
 use Rattle.vh_tree.specs.declared.stmt.VStmt.{VStmt}
-use Rattle.vh_tree.specs.declared.stmt.Branch.{Branch}
 use Rattle.vh_tree.proofs.Comparisons.{both_so}
 
 abbrev pub any : Bytes → Bool

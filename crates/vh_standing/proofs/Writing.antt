@@ -1,9 +1,8 @@
 -- A pending value, put to a name and written to its place.
-use Rattle.std.proofs.Common.{◌≡◌, ℕ, zero, suc, ◌+◌, List, [], ◌∷◌, length, take, drop, Bool, true, false, Some, None, refl, ap, sym, ◌∙◌, subst, arith, if◌then◌else◌, length-drop}
+use Rattle.std.proofs.Common.{◌≡◌, ℕ, ◌+◌, List, [], ◌∷◌, length, take, drop, Bool, true, false, ap, sym, ◌∙◌, subst, arith, if◌then◌else◌, length-drop}
 use Rattle.vh_tree.specs.Bits.{Bytes, Bits, same_name}
 use Rattle.vh_tree.specs.DeltaCycle.{Wires, put}
 use Rattle.vh_tree.specs.declared.function.Var.{Var}
-use Rattle.vh_tree.specs.declared.wire.Wire.{Wire}
 use Rattle.vh_flat.specs.Flat.{written}
 use Rattle.vh_flat.specs.Delta.{raised}
 use Rattle.vh_flat.specs.Names.{total_width}
