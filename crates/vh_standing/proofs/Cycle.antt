@@ -46,7 +46,7 @@ module _ (d : Design) (s : State) (fits : FitsDesign d s) where
     is = map-wires_at vars s.now s.next s.pending fits.still;
     next = fits.next;
     pending = length-replicate (length s.pending) false ∙ fits.pending;
-    still = still_at_first vars s.next s.pending;
+    still = still_at_first vars s.next (length s.pending);
   }
 
   moment-state_at : moment_of (state_at d s) ≡ moment_at vars s.now s.next s.starting

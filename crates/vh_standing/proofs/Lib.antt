@@ -1,4 +1,4 @@
--- Lemmas: lists with bits written into them, places of names, and then what buffers stand for.
+-- Lemmas: bits written into lists, places of names, what is read and written there, and then cycles and settling.
 pub mod Parts
 pub mod Places
 pub mod Reading
@@ -10,3 +10,5 @@ pub mod Usable
 pub mod Scopes
 pub mod Processes
 pub mod Cycle
+pub mod Settling
+pub mod Ports

@@ -4,7 +4,7 @@ use mathlib.Core.Bool.{true≢false}
 use Rattle.vh_tree.specs.Bits.{Bytes, same_name, is_among}
 use Rattle.vh_tree.specs.StaticRules.{names_of, width_among}
 use Rattle.vh_tree.specs.declared.function.Var.{Var}
-use Rattle.vh_flat.specs.Names.{slot_among, total_width}
+use Rattle.vh_flat.specs.Names.{slot_among, slots_of, total_width}
 use Rattle.vh_flat.specs.declared.slot.Slot.{Slot}
 use Rattle.vh_tree.proofs.Comparisons.{name_turned}
 
@@ -52,6 +52,15 @@ placed x number from (v ∷ vs) = placed_step x number from v vs (same_name v.na
 pub slot_at : (x : Bytes) (vars : List Var) (s : Slot) → IsSlot x 0 0 vars s → IsAt x vars s.number s.from s.len
 slot_at x vars s k =
     subst (λ (i : ℕ). IsAt x vars i s.from s.len) (omega (arith, k.is_number)) (subst (λ (o : ℕ). IsAt x vars k.index o s.len) (omega (arith, k.is_from)) k.is_at)
+
+slot_case : (x : Bytes) (vars : List Var) (s : Slot) (o : Option Slot) → Placed x 0 0 vars o → o ≡ Some s → IsAt x vars s.number s.from s.len
+slot_case x vars s _ (nowhere n) e = cc
+slot_case x vars s _ (somewhere r k) e =
+    let same : r ≡ s = cc in
+    subst (λ (t : Slot). IsAt x vars t.number t.from t.len) same (slot_at x vars r k)
+
+pub slot_is : (x : Bytes) (vars : List Var) (s : Slot) → slots_of vars x ≡ Some s → IsAt x vars s.number s.from s.len
+slot_is x vars s e = slot_case x vars s (slots_of vars x) (placed x 0 0 vars) e
 
 -- a name of these has a place
 pub has_place : (x : Bytes) (vars : List Var) (o : Option Slot) → Placed x 0 0 vars o → is_among x (names_of vars) ≡ true → (s : Slot) × IsAt x vars s.number s.from s.len

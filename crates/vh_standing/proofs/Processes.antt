@@ -35,7 +35,7 @@ pub record StandsFor (vars : List Var) (now : Bits) (c : Coming) (ws : Wires) : 
   pub pending : length c.pending ≡ length vars
   pub still : AreStill vars now c.next c.pending
 
-put_at : (vars : List Var) (now : Bits) (x : Bytes) (value : Bits) (s : Slot) → IsAt x vars s.number s.from s.len → length value ≡ s.len → (c : Coming) (ws : Wires) → StandsFor vars now c ws →
+pub put_at : (vars : List Var) (now : Bits) (x : Bytes) (value : Bits) (s : Slot) → IsAt x vars s.number s.from s.len → length value ≡ s.len → (c : Coming) (ws : Wires) → StandsFor vars now c ws →
     StandsFor vars now (driven (Some s) value c) (put x value ws)
 put_at vars now x value s k fits c ws h =
     let room = room_there x k in
