@@ -6,5 +6,7 @@
 
 mod bench;
 mod fail;
+mod whole;
 
 pub use fail::BenchFail;
+pub use whole::simulate;
