@@ -59,10 +59,10 @@ pub later : (vhdl trace text bytes : List ℕ) (held : Option Files) → IfTold 
 later vhdl trace text bytes held loaded read given answer fail other is =
     let same : given ≡ fail = same_failure given fail is in
     elim answer [
-      inl memory ↦ absurd (other (sym same ∙ ap failure_in memory))
-    | inr cause ↦
-        both_told (Loads vhdl most_of_vhdl text) (Loads trace most_of_trace bytes) (λ files. Simulates (Some (Sim vhdl trace)) files (Err fail)) held
-        (λ files p q. (text, bytes, p, q, subst (λ f. IsSimulated text bytes (Err f)) same cause)) loaded read
+      | inl memory ↦ absurd (other (sym same ∙ ap failure_in memory))
+      | inr cause ↦
+          both_told (Loads vhdl most_of_vhdl text) (Loads trace most_of_trace bytes) (λ files. Simulates (Some (Sim vhdl trace)) files (Err fail)) held
+          (λ files p q. (text, bytes, p, q, subst (λ f. IsSimulated text bytes (Err f)) same cause)) loaded read
     ]
 
 -- the text of what was loaded
@@ -70,10 +70,10 @@ pub printed : (vhdl trace text bytes : List ℕ) (held : Option Files) → IfTol
     (lines : List ℕ) (given : Answer) → given ≡ Ok lines → (given ≡ Err bench.OutOfMemory) ⊎ IsSimulated text bytes given → IfTold (Prints (Some (Sim vhdl trace)) lines) held
 printed vhdl trace text bytes held loaded read lines given is answer =
     elim answer [
-      inl memory ↦ absurd (cc)
-    | inr cause ↦
-        both_told (Loads vhdl most_of_vhdl text) (Loads trace most_of_trace bytes) (Prints (Some (Sim vhdl trace)) lines) held
-        (λ files p q. (text, bytes, p, q, subst (λ r. IsSimulated text bytes r) is cause)) loaded read
+      | inl memory ↦ absurd (cc)
+      | inr cause ↦
+          both_told (Loads vhdl most_of_vhdl text) (Loads trace most_of_trace bytes) (Prints (Some (Sim vhdl trace)) lines) held
+          (λ files p q. (text, bytes, p, q, subst (λ r. IsSimulated text bytes r) is cause)) loaded read
     ]
 
 -- what was loaded is what the files hold
@@ -86,7 +86,7 @@ pub exactly : (vhdl trace text bytes : List ℕ) (held : Option Files) → IfTol
     (given ≡ Err fail) ⊎ (given ≡ Err bench.OutOfMemory)
 exactly vhdl trace text bytes held loaded read given only files is fail s =
     only (Err fail) (subst (λ b. IsSimulated text b (Err fail)) (sym (one_load trace most_of_trace bytes s.1 files (told_of _ held files is read) s.3))
-      (subst (λ t. IsSimulated t s.1 (Err fail)) (sym (one_load vhdl most_of_vhdl text s.0 files (told_of _ held files is loaded) s.2)) s.4))
+    (subst (λ t. IsSimulated t s.1 (Err fail)) (sym (one_load vhdl most_of_vhdl text s.0 files (told_of _ held files is loaded) s.2)) s.4))
 
 pub status_given : (given fail : BenchFail) → (failed given ≡ Err fail) ⊎ (failed given ≡ Err bench.OutOfMemory) →
     (status_of given ≡ status_of fail) ⊎ (status_of given ≡ status.ReadFault) ⊎ (status_of given ≡ status.OutOfMemory)

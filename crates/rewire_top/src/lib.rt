@@ -17,4 +17,6 @@ pub use status::Status;
 pub use top::rewire;
 
 #[cfg(test)]
+mod sim_tests;
+#[cfg(test)]
 mod tests;

@@ -13,6 +13,7 @@ use vhdl_bench::{BenchFail, simulate};
 
 // One byte more than a text, and than a trace, may have.
 const MOST_OF_VHDL: usize = 67_108_865;
+
 const MOST_OF_TRACE: usize = 16_777_217;
 
 // The status that tells why a simulation prints nothing.
@@ -28,7 +29,13 @@ fn told(fail: BenchFail) -> Status
 }
 
 // Simulates the text under `vhdl` on the trace under `trace`, and puts what it shows to `out`.
-pub fn sim<S: Store, O: Sink>(alloc: Global, vhdl: &str, trace: &str, store: &mut S, out: &mut O) -> Status
+pub fn sim<S: Store, O: Sink>(
+    alloc: Global,
+    vhdl: &str,
+    trace: &str,
+    store: &mut S,
+    out: &mut O,
+) -> Status
     ensures usage { result ≢ Status.Usage }
     ensures read_fault { result ≡ Status.ReadFault → Rose (S.load_faults store.old) (S.load_faults store.new) }
     ensures read_fault_sound { S.sound store.old → IfTold (HoldsAll (vhdl.now ∷ trace.now ∷ [])) (S.held store.old) → result ≢ Status.ReadFault }
