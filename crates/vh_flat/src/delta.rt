@@ -8,7 +8,7 @@ use crate::process::{Check, Drive, Place, Process, World};
 use crate::run::{append_expr, holds, standing};
 use rw_base::Bit9;
 
-fn raise(pending: &mut [bool], at: u32)
+pub fn raise(pending: &mut [bool], at: u32)
     ensures { pending.new ≡ raised at pending.old }
 {
     let at = at as usize;
