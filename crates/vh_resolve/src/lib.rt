@@ -7,6 +7,11 @@
 ghost use Rattle.std.specs.Prelude.{IfOk};
 ghost use Rattle.vh_flat.specs.Resolving.{IsResolved};
 
+mod expr;
+mod sized;
+mod stmt;
+mod table;
+
 use rw_base::OutOfMemory;
 use std::alloc::Global;
 use vh_flat::Resolved;

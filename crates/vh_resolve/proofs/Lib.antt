@@ -1,0 +1,4 @@
+pub mod Entries
+pub mod Joined
+pub mod Ordered
+pub mod Same
