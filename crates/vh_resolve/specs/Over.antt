@@ -3,6 +3,9 @@ use Rattle.std.specs.Prelude.{◌≡◌, ℕ, List, [], ◌∷◌, Option, Some,
 use Rattle.vh_tree.specs.Bits.{Bytes, Bits}
 use Rattle.vh_tree.specs.Functions.{World, Choice}
 use Rattle.vh_flat.specs.Flat.{Frame, Taken, fun_of, all_hold, in_order}
+use Rattle.vh_flat.specs.Delta.{Coming}
+use Rattle.vh_flat.specs.Delta.{Taken as Row, all_hold as all_checked, in_order as driven_by}
+use Rattle.vh_flat.specs.declared.process.World.{World as Asked}
 use Rattle.vh_flat.specs.Names.{Slots, Frames}
 use Rattle.vh_flat.specs.declared.slot.Slot.{Slot}
 use Rattle.vh_resolve.specs.Tables.{known_in}
@@ -27,3 +30,10 @@ Agree w n frame [] [] = Unit {0}
 Agree w n frame (b ∷ bs) (m ∷ ms) = (all_hold b.tests n frame ≡ m.0 w frame) × (in_order b.body n frame ≡ m.1 w frame) × Agree w n frame bs ms
 Agree w n frame [] (m ∷ ms) = ⊥
 Agree w n frame (b ∷ bs) [] = ⊥
+
+-- the same of rows of a process
+abbrev pub RowsAgree : World Coming → Asked → ℕ → Bits → Coming → List Row → List (Choice Coming) → Type 0
+RowsAgree v w n now c [] [] = Unit {0}
+RowsAgree v w n now c (b ∷ bs) (m ∷ ms) = (all_checked b.checks w n now ≡ m.0 v c) × (driven_by b.body w n now c ≡ m.1 v c) × RowsAgree v w n now c bs ms
+RowsAgree v w n now c [] (m ∷ ms) = ⊥
+RowsAgree v w n now c (b ∷ bs) [] = ⊥

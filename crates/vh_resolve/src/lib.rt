@@ -7,7 +7,9 @@
 ghost use Rattle.std.specs.Prelude.{IfOk};
 ghost use Rattle.vh_flat.specs.Resolving.{IsResolved};
 
+mod drive;
 mod expr;
+mod process;
 mod sized;
 mod stmt;
 mod table;
