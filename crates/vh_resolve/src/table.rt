@@ -1,5 +1,5 @@
 // A table from names to what is known of them. Contracts see it as a function.
-ghost use Rattle.std.specs.Prelude.{◌≡◌, OnOk, None, option_copied};
+ghost use Rattle.std.specs.Prelude.{◌≡◌, OnOk, None, is_some, option_copied};
 ghost use Rattle.vh_tree.specs.Bits.{Bytes};
 ghost use Rattle.vh_resolve.specs.Tables.{known_in, put};
 
@@ -39,6 +39,13 @@ impl<V: Drop> Table<V> {
         ensures { option_copied result ≡ known_in self.now name.now }
     {
         self.index.get(name.as_slice())
+    }
+
+    // Whether the name has anything.
+    pub fn has(&self, name: &[u8]) -> bool
+        ensures { result ≡ is_some (known_in self.now name.now) }
+    {
+        self.index.contains_key(name)
     }
 
     // Gives the name this, whatever it had.
