@@ -1,5 +1,5 @@
 -- What resolved processes mean, and delta cycles over flat lists of bits.
-use Rattle.std.specs.Prelude.{ℕ, zero, suc, ◌+◌, List, [], ◌∷◌, length, map, max, replicate, slice_set, nat_lt, Bool, true, false, not, ◌&&◌, ◌||◌, if◌then◌else◌}
+use Rattle.std.specs.Prelude.{ℕ, List, [], ◌∷◌, length, map, max, slice_set, nat_lt, Bool, true, false, not, ◌||◌, if◌then◌else◌}
 use Rattle.std.specs.List.{list_any}
 use Rattle.vh_tree.specs.Bits.{Bits, same_bits}
 use Rattle.vh_flat.specs.Flat.{expr_of, test_of, part_of, written}

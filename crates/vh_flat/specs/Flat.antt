@@ -1,5 +1,5 @@
 -- What resolved expressions, statements and functions mean, over flat lists of bits.
-use Rattle.std.specs.Prelude.{ℕ, ◌+◌, ◌-◌, List, [], ◌∷◌, ◌++◌, length, take, drop, map, replicate, min, max, Bool, true, false, ◌&&◌, if◌then◌else◌}
+use Rattle.std.specs.Prelude.{ℕ, ◌+◌, ◌-◌, List, [], ◌∷◌, ◌++◌, length, take, drop, replicate, min, max, Bool, true, false, if◌then◌else◌}
 use Rattle.vh_tree.specs.Bits.{Bits, same_bits, slice_of}
 use Rattle.rw_base.specs.declared.bit.Bit9.TheVariants.{U}
 use Rattle.vh_flat.specs.declared.resolved.Expr.{Expr}
@@ -7,7 +7,7 @@ use Rattle.vh_flat.specs.declared.resolved.Stmt.{Stmt}
 use Rattle.vh_flat.specs.declared.resolved.Branch.{Branch}
 use Rattle.vh_flat.specs.declared.resolved.Fun.{Fun}
 use Rattle.vh_flat.specs.declared.resolved.Test.{Test}
-use Rattle.vh_flat.specs.declared.resolved.Expr.TheOpen.{Expr-F, Part, Slice, Literal, Call, Join, Test-F, Stmt-F, Assign, If, Branch-F, Fun-F}
+use Rattle.vh_flat.specs.declared.resolved.Expr.TheOpen.{Expr-F, Part, Slice, Cut, Literal, Call, Join, Test-F, Stmt-F, Assign, If, Branch-F, Fun-F}
 use Rattle.vh_flat.specs.declared.resolved.Expr.TheFolds.{fold-Expr, fold-Stmt, fold-Branch, fold-Test, fold-Fun}
 
 -- the value of an expression over a frame, where the store for functions has this length, and the room that it takes on the way
@@ -66,6 +66,7 @@ expr_step (Slice from len high low) = record {
   value = λ n frame. slice_of high low (part_of from len frame);
   room = λ n frame. length (slice_of high low (part_of from len frame));
 }
+expr_step (Cut e high low) = record { value = λ n frame. slice_of high low (e.value n frame); room = e.room }
 expr_step (Literal bits) = record { value = λ n frame. bits; room = λ n frame. length bits }
 expr_step (Call f args) = record {
   value = λ n frame. called f.value n (joined args n frame);

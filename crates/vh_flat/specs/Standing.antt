@@ -1,13 +1,13 @@
 -- What flat buffers stand for: the ports and signals of a design, with their current and pending values.
-use Rattle.std.specs.Prelude.{◌≡◌, ℕ, List, [], ◌∷◌, length, take, drop, Bool, true, false, Some, None}
+use Rattle.std.specs.Prelude.{◌≡◌, List, [], ◌∷◌, length, take, drop, Bool, true, false, Some, None}
 use Rattle.vh_tree.specs.Bits.{Bits}
-use Rattle.vh_tree.specs.DeltaCycle.{Wires, delta_cycle}
+use Rattle.vh_tree.specs.DeltaCycle.{Wires, delta_cycle, is_quiet as is_quiet_state}
 use Rattle.vh_tree.specs.StaticRules.{IsStatic, process_vars}
 use Rattle.vh_tree.specs.declared.function.Var.{Var}
 use Rattle.vh_tree.specs.declared.design.Design.{Design}
 use Rattle.vh_tree.specs.declared.wire.Wire.{Wire}
 use Rattle.vh_tree.specs.declared.wire.State.{State as Stands}
-use Rattle.vh_flat.specs.Cycles.{State, delta_of}
+use Rattle.vh_flat.specs.Cycles.{State, delta_of, is_quiet}
 use Rattle.vh_flat.specs.Names.{total_width}
 use Rattle.vh_flat.specs.Resolving.{IsResolved}
 use Rattle.vh_flat.specs.declared.slot.Resolved.{Resolved}
@@ -46,3 +46,7 @@ pub record FitsDesign (d : Design) (s : State) : Type 0 where
 abbrev pub DeltaLaw : Type 0
 DeltaLaw = (d : Design) → IsStatic d → (r : Resolved) → IsResolved d r → (s : State) → FitsDesign d s →
     FitsDesign d (delta_of r.processes r.store s) × (state_at d (delta_of r.processes r.store s) ≡ delta_cycle d d.processes (state_at d s))
+
+-- buffers are quiet exactly where the state is for which they stand
+abbrev pub QuietLaw : Type 0
+QuietLaw = (d : Design) (s : State) → FitsDesign d s → is_quiet_state (state_at d s) ≡ is_quiet s

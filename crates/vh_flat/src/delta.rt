@@ -1,12 +1,14 @@
 ghost use Rattle.std.specs.Prelude.{◌≡◌, ◌≤◌, ◌+◌, length, vec_len, vec_capacity, map, slice_set, Bool};
+ghost use Rattle.vh_flat.specs.Flat.{expr_of, written};
 ghost use Rattle.vh_flat.specs.Delta.{check_of, room_check, all_hold, room_checks, raised, in_order, room_in_order, drive_of, has_event, ran, room_ran};
 
+use crate::Expr;
 use crate::leaves::{equal, part, put};
 use crate::process::{Check, Drive, Place, Process, World};
-use crate::run::{append_expr, holds};
+use crate::run::{append_expr, holds, standing};
 use rw_base::Bit9;
 
-fn raise(pending: &mut [bool], at: u32)
+pub fn raise(pending: &mut [bool], at: u32)
     ensures { pending.new ≡ raised at pending.old }
 {
     let at = at as usize;
@@ -28,7 +30,13 @@ fn checks(check: &Check, w: World, now: &[Bit9], store: &mut [Bit9], out: &mut V
     }
 }
 
-fn all_check(tests: &[Check], w: World, now: &[Bit9], store: &mut [Bit9], out: &mut Vec<Bit9>) -> bool
+fn all_check(
+    tests: &[Check],
+    w: World,
+    now: &[Bit9],
+    store: &mut [Bit9],
+    out: &mut Vec<Bit9>,
+) -> bool
     requires { vec_len out.old + room_checks tests.now (length store.old) now.now ≤ vec_capacity out.old }
     ensures value { result ≡ all_hold tests.now w (length store.old) now.now }
     ensures same { out.new.items ≡ out.old.items }
@@ -42,8 +50,39 @@ fn all_check(tests: &[Check], w: World, now: &[Bit9], store: &mut [Bit9], out: &
     true
 }
 
+fn assign(
+    next: &mut [Bit9],
+    from: u32,
+    e: &Expr,
+    now: &[Bit9],
+    store: &mut [Bit9],
+    out: &mut Vec<Bit9>,
+)
+    requires { vec_len out.old + (expr_of e.now).room (length store.old) now.now ≤ vec_capacity out.old }
+    ensures value { next.new ≡ written from ((expr_of e.now).value (length store.old) now.now) next.old }
+    ensures same { out.new.items ≡ out.old.items }
+    ensures capacity { vec_capacity out.old ≤ vec_capacity out.new }
+{
+    if let Some(bits) = standing(e, now) {
+        put(next, from, bits);
+        return;
+    }
+    let start = out.len();
+    append_expr(out, e, now, store);
+    put(next, from, &out[start..]);
+    out.truncate(start);
+}
+
 #[cycle(drive)]
-fn drive_all(body: &[Drive], w: World, now: &[Bit9], next: &mut [Bit9], pending: &mut [bool], store: &mut [Bit9], out: &mut Vec<Bit9>)
+fn drive_all(
+    body: &[Drive],
+    w: World,
+    now: &[Bit9],
+    next: &mut [Bit9],
+    pending: &mut [bool],
+    store: &mut [Bit9],
+    out: &mut Vec<Bit9>,
+)
     requires { vec_len out.old + room_in_order (map drive_of body.now) (length store.old) now.now ≤ vec_capacity out.old }
     ensures value { record { next = next.new; pending = pending.new } ≡ in_order (map drive_of body.now) w (length store.old) now.now (record { next = next.old; pending = pending.old }) }
     ensures same { out.new.items ≡ out.old.items }
@@ -55,7 +94,15 @@ fn drive_all(body: &[Drive], w: World, now: &[Bit9], next: &mut [Bit9], pending:
 }
 
 #[cycle(drive)]
-fn drive(stmt: &Drive, w: World, now: &[Bit9], next: &mut [Bit9], pending: &mut [bool], store: &mut [Bit9], out: &mut Vec<Bit9>)
+fn drive(
+    stmt: &Drive,
+    w: World,
+    now: &[Bit9],
+    next: &mut [Bit9],
+    pending: &mut [bool],
+    store: &mut [Bit9],
+    out: &mut Vec<Bit9>,
+)
     requires { vec_len out.old + (drive_of stmt.now).room (length store.old) now.now ≤ vec_capacity out.old }
     ensures value { record { next = next.new; pending = pending.new } ≡ (drive_of stmt.now).after w (length store.old) now.now (record { next = next.old; pending = pending.old }) }
     ensures same { out.new.items ≡ out.old.items }
@@ -63,10 +110,7 @@ fn drive(stmt: &Drive, w: World, now: &[Bit9], next: &mut [Bit9], pending: &mut 
 {
     match stmt {
         Drive::Assign(at, from, e) => {
-            let start = out.len();
-            append_expr(out, e, now, store);
-            put(next, *from, &out[start..]);
-            out.truncate(start);
+            assign(next, *from, e, now, store, out);
             raise(pending, *at);
         }
         Drive::If(rows, other) => {
@@ -85,14 +129,27 @@ fn event(now: &[Bit9], before: &[Bit9], places: &[Place]) -> bool
     ensures { result ≡ has_event now.now before.now places.now }
 {
     for place in places {
-        if !equal(part(now, place.from, place.len), part(before, place.from, place.len)) {
+        if !equal(
+            part(now, place.from, place.len),
+            part(before, place.from, place.len),
+        ) {
             return true;
         }
     }
     false
 }
 
-pub fn run_processes(processes: &[Process], starting: bool, before: &[Bit9], w: World, now: &[Bit9], next: &mut [Bit9], pending: &mut [bool], store: &mut [Bit9], out: &mut Vec<Bit9>)
+pub fn run_processes(
+    processes: &[Process],
+    starting: bool,
+    before: &[Bit9],
+    w: World,
+    now: &[Bit9],
+    next: &mut [Bit9],
+    pending: &mut [bool],
+    store: &mut [Bit9],
+    out: &mut Vec<Bit9>,
+)
     requires { vec_len out.old + room_ran processes.now (length store.old) now.now ≤ vec_capacity out.old }
     ensures value { record { next = next.new; pending = pending.new } ≡ ran processes.now starting before.now w (length store.old) now.now (record { next = next.old; pending = pending.old }) }
     ensures same { out.new.items ≡ out.old.items }

@@ -1,4 +1,4 @@
-ghost use Rattle.std.specs.Prelude.{◌≡◌, ◌≤◌, ◌+◌, ◌++◌, length, vec_len, vec_capacity, replicate};
+ghost use Rattle.std.specs.Prelude.{◌≡◌, ◌≤◌, ◌+◌, ◌++◌, length, vec_len, vec_capacity, replicate, take, drop};
 ghost use Rattle.vh_tree.specs.Bits.{same_bits, slice_of};
 ghost use Rattle.vh_flat.specs.Flat.{part_of, written, entered};
 ghost use Rattle.rw_base.specs.declared.bit.Bit9.TheVariants.{U};
@@ -23,17 +23,38 @@ pub fn append(out: &mut Vec<Bit9>, bits: &[Bit9])
 pub fn equal(a: &[Bit9], b: &[Bit9]) -> bool
     ensures { result ≡ same_bits a.now b.now }
 {
-    a == b
+    match (a, b) {
+        ([x], [y]) => x == y,
+        _ => a == b,
+    }
 }
 
 pub fn put(frame: &mut [Bit9], from: u32, bits: &[Bit9])
     ensures { frame.new ≡ written from bits.now frame.old }
 {
     let start = frame.len().min(from as usize);
+    if let [bit] = bits {
+        if start < frame.len() {
+            frame[start] = *bit;
+        }
+        return;
+    }
     let (_, rest) = frame.split_at_mut(start);
     let len = rest.len().min(bits.len());
     let (place, _) = rest.split_at_mut(len);
     place.copy_from_slice(&bits[..len]);
+}
+
+/// Copies a part of a frame to another place in it.
+pub fn copy(frame: &mut [Bit9], from: u32, source: u32, len: u32)
+    ensures { frame.new ≡ written from (part_of source len frame.old) frame.old }
+{
+    let start = frame.len().min(from as usize);
+    let first = frame.len().min(source as usize);
+    let len = (frame.len() - first)
+        .min(len as usize)
+        .min(frame.len() - start);
+    frame.copy_within(first..first + len, start);
 }
 
 pub fn enter(frame: &mut [Bit9], args: &[Bit9])
@@ -59,4 +80,16 @@ pub fn slice(bits: &[Bit9], high: u32, low: u32) -> &[Bit9]
     let end = high as usize + 1;
     let rest = &bits[bits.len().saturating_sub(end)..];
     &rest[..rest.len().min(end.saturating_sub(low as usize))]
+}
+
+pub fn cut(out: &mut Vec<Bit9>, start: usize, high: u32, low: u32)
+    requires { start ≤ vec_len out.old }
+    ensures value { out.new.items ≡ take start out.old.items ++ slice_of high low (drop start out.old.items) }
+    ensures capacity { vec_capacity out.new ≡ vec_capacity out.old }
+{
+    let end = high as usize + 1;
+    let first = start + (out.len() - start).saturating_sub(end);
+    let len = (out.len() - first).min(end.saturating_sub(low as usize));
+    out.copy_within(first..first + len, start);
+    out.truncate(start + len);
 }

@@ -1,6 +1,6 @@
-use sqlite_items::Items;
-use std::rc::Rc;
 use rw_base::Bit9;
+use sqlite_items::{Boxed, Items};
+use std::rc::Rc;
 
 /// An expression over a frame: a part of it, or what is made of parts.
 #[cycle(parts)]
@@ -8,6 +8,7 @@ use rw_base::Bit9;
 pub enum Expr {
     Part(u32, u32),
     Slice(u32, u32, u32, u32),
+    Cut(Boxed<Expr>, u32, u32),
     Literal(Items<Bit9>),
     Call(Rc<Fun>, Items<Expr>),
     Join(Items<Expr>),

@@ -1,4 +1,4 @@
-use Rattle.std.proofs.Common.{◌≡◌, ◌-◌, ◌++◌, length, replicate, take, drop}
+use Rattle.std.proofs.Common.{◌≡◌, replicate, take}
 use Rattle.rw_base.specs.declared.bit.Bit9.TheVariants.{U}
 use Rattle.vh_flat.proofs.leaves.all_u.Given as goal
 
