@@ -45,3 +45,7 @@ pub record Settles (ps : List Process) (n : ℕ) (k : ℕ) (s t : State) : Type 
 abbrev pub IsSettling : List Process → ℕ → ℕ → State → State → Option ℕ → Type 0
 IsSettling ps n most s t (Some k) = (k ≤ most) × Settles ps n k s t
 IsSettling ps n most s t None = (j : ℕ) → j ≤ most → is_quiet (cycles_of ps n j s) ≡ false
+
+-- some number of cycles lead from one state to the other
+abbrev pub Reaches : List Process → ℕ → State → State → Type 0
+Reaches ps n s t = (k : ℕ) × (t ≡ cycles_of ps n k s)

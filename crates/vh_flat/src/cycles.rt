@@ -3,7 +3,7 @@ ghost use Rattle.std.specs.List.{list_any};
 ghost use Rattle.vh_tree.specs.DeltaCycle.{rises as rises_of};
 ghost use Rattle.vh_tree.specs.Bits.{Bits};
 ghost use Rattle.vh_flat.specs.Delta.{room_ran};
-ghost use Rattle.vh_flat.specs.Cycles.{State, delta_of, cycles_of, is_quiet, IsSettling};
+ghost use Rattle.vh_flat.specs.Cycles.{State, delta_of, cycles_of, is_quiet, IsSettling, Reaches};
 
 use crate::delta::run_processes;
 use crate::leaves::{equal, part};
@@ -95,6 +95,7 @@ pub fn settle(
     requires next_fits { length next.old ≡ length now.old }
     requires room { (frame : Bits) → vec_len out.old + room_ran processes.now (length store.old) frame ≤ vec_capacity out.old }
     ensures value { IsSettling processes.now (length store.old) 64 (record { now = now.old; before = before.old; next = next.old; pending = pending.old; starting = starting.old }) (record { now = now.new; before = before.new; next = next.new; pending = pending.new; starting = starting.new }) result }
+    ensures reaches { Reaches processes.now (length store.old) (record { now = now.old; before = before.old; next = next.old; pending = pending.old; starting = starting.old }) (record { now = now.new; before = before.new; next = next.new; pending = pending.new; starting = starting.new }) }
     ensures same { out.new.items ≡ out.old.items }
     ensures capacity { vec_capacity out.old ≤ vec_capacity out.new }
 {

@@ -1,12 +1,14 @@
 ghost use Rattle.std.specs.Prelude.{◌≡◌, ◌≤◌, ◌+◌, length, vec_len, vec_capacity, map, slice_set, Bool};
+ghost use Rattle.vh_flat.specs.Flat.{expr_of, written};
 ghost use Rattle.vh_flat.specs.Delta.{check_of, room_check, all_hold, room_checks, raised, in_order, room_in_order, drive_of, has_event, ran, room_ran};
 
+use crate::Expr;
 use crate::leaves::{equal, part, put};
 use crate::process::{Check, Drive, Place, Process, World};
-use crate::run::{append_expr, holds};
+use crate::run::{append_expr, holds, standing};
 use rw_base::Bit9;
 
-fn raise(pending: &mut [bool], at: u32)
+pub fn raise(pending: &mut [bool], at: u32)
     ensures { pending.new ≡ raised at pending.old }
 {
     let at = at as usize;
@@ -48,6 +50,29 @@ fn all_check(
     true
 }
 
+fn assign(
+    next: &mut [Bit9],
+    from: u32,
+    e: &Expr,
+    now: &[Bit9],
+    store: &mut [Bit9],
+    out: &mut Vec<Bit9>,
+)
+    requires { vec_len out.old + (expr_of e.now).room (length store.old) now.now ≤ vec_capacity out.old }
+    ensures value { next.new ≡ written from ((expr_of e.now).value (length store.old) now.now) next.old }
+    ensures same { out.new.items ≡ out.old.items }
+    ensures capacity { vec_capacity out.old ≤ vec_capacity out.new }
+{
+    if let Some(bits) = standing(e, now) {
+        put(next, from, bits);
+        return;
+    }
+    let start = out.len();
+    append_expr(out, e, now, store);
+    put(next, from, &out[start..]);
+    out.truncate(start);
+}
+
 #[cycle(drive)]
 fn drive_all(
     body: &[Drive],
@@ -85,10 +110,7 @@ fn drive(
 {
     match stmt {
         Drive::Assign(at, from, e) => {
-            let start = out.len();
-            append_expr(out, e, now, store);
-            put(next, *from, &out[start..]);
-            out.truncate(start);
+            assign(next, *from, e, now, store, out);
             raise(pending, *at);
         }
         Drive::If(rows, other) => {

@@ -23,17 +23,38 @@ pub fn append(out: &mut Vec<Bit9>, bits: &[Bit9])
 pub fn equal(a: &[Bit9], b: &[Bit9]) -> bool
     ensures { result ≡ same_bits a.now b.now }
 {
-    a == b
+    match (a, b) {
+        ([x], [y]) => x == y,
+        _ => a == b,
+    }
 }
 
 pub fn put(frame: &mut [Bit9], from: u32, bits: &[Bit9])
     ensures { frame.new ≡ written from bits.now frame.old }
 {
     let start = frame.len().min(from as usize);
+    if let [bit] = bits {
+        if start < frame.len() {
+            frame[start] = *bit;
+        }
+        return;
+    }
     let (_, rest) = frame.split_at_mut(start);
     let len = rest.len().min(bits.len());
     let (place, _) = rest.split_at_mut(len);
     place.copy_from_slice(&bits[..len]);
+}
+
+/// Copies a part of a frame to another place in it.
+pub fn copy(frame: &mut [Bit9], from: u32, source: u32, len: u32)
+    ensures { frame.new ≡ written from (part_of source len frame.old) frame.old }
+{
+    let start = frame.len().min(from as usize);
+    let first = frame.len().min(source as usize);
+    let len = (frame.len() - first)
+        .min(len as usize)
+        .min(frame.len() - start);
+    frame.copy_within(first..first + len, start);
 }
 
 pub fn enter(frame: &mut [Bit9], args: &[Bit9])

@@ -1,10 +1,22 @@
-ghost use Rattle.std.specs.Prelude.{◌≡◌, ◌≤◌, ◌+◌, ◌++◌, length, vec_len, vec_capacity, map, take, drop};
-ghost use Rattle.vh_flat.specs.Flat.{expr_of, stmt_of, branch_of, fun_of, test_of, joined, room_joined, in_order, room_in_order};
+ghost use Rattle.std.specs.Prelude.{◌≡◌, ℕ, ◌≤◌, IfSome, ◌+◌, ◌++◌, length, vec_len, vec_capacity, map, take, drop};
+ghost use Rattle.vh_flat.specs.Flat.{expr_of, stmt_of, branch_of, fun_of, test_of, joined, room_joined, written, in_order, room_in_order};
 ghost use Rattle.vh_flat.specs.Flat.{room_tests, all_hold as all_of, called, room_called};
 
-use crate::leaves::{append, cut, enter, equal, part, put, slice};
+use crate::leaves::{append, copy, cut, enter, equal, part, put, slice};
 use crate::{Expr, Fun, Stmt, Test};
 use rw_base::Bit9;
+
+/// The value of an expression, where its bits stand somewhere already.
+pub fn standing<'a>(e: &'a Expr, frame: &'a [Bit9]) -> Option<&'a [Bit9]>
+    ensures { IfSome result (λ bits. (n : ℕ) → bits.now ≡ (expr_of e.now).value n frame.now) }
+{
+    match e {
+        Expr::Part(from, len) => Some(part(frame, *from, *len)),
+        Expr::Slice(from, len, high, low) => Some(slice(part(frame, *from, *len), *high, *low)),
+        Expr::Literal(bits) => Some(bits.as_slice()),
+        _ => None,
+    }
+}
 
 /// Appends the value of an expression.
 #[cycle(run)]
@@ -85,6 +97,25 @@ pub fn run_all(body: &[Stmt], own: &mut [Bit9], lower: &mut [Bit9], out: &mut Ve
 }
 
 #[cycle(run)]
+fn assign(own: &mut [Bit9], from: u32, e: &Expr, lower: &mut [Bit9], out: &mut Vec<Bit9>)
+    requires { vec_len out.old + (expr_of e.now).room (length lower.old) own.old ≤ vec_capacity out.old }
+    ensures value { own.new ≡ written from ((expr_of e.now).value (length lower.old) own.old) own.old }
+    ensures same { out.new.items ≡ out.old.items }
+    ensures capacity { vec_capacity out.old ≤ vec_capacity out.new }
+{
+    match e {
+        Expr::Literal(bits) => put(own, from, bits.as_slice()),
+        Expr::Part(source, len) => copy(own, from, *source, *len),
+        _ => {
+            let start = out.len();
+            append_expr(out, e, own, lower);
+            put(own, from, &out[start..]);
+            out.truncate(start);
+        }
+    }
+}
+
+#[cycle(run)]
 fn run(stmt: &Stmt, own: &mut [Bit9], lower: &mut [Bit9], out: &mut Vec<Bit9>)
     requires { vec_len out.old + (stmt_of stmt.now).room (length lower.old) own.old ≤ vec_capacity out.old }
     ensures value { own.new ≡ (stmt_of stmt.now).after (length lower.old) own.old }
@@ -92,12 +123,7 @@ fn run(stmt: &Stmt, own: &mut [Bit9], lower: &mut [Bit9], out: &mut Vec<Bit9>)
     ensures capacity { vec_capacity out.old ≤ vec_capacity out.new }
 {
     match stmt {
-        Stmt::Assign(from, e) => {
-            let start = out.len();
-            append_expr(out, e, own, lower);
-            put(own, *from, &out[start..]);
-            out.truncate(start);
-        }
+        Stmt::Assign(from, e) => assign(own, *from, e, lower, out),
         Stmt::If(branches, other) => {
             for branch in branches.as_slice() {
                 if all_hold(branch.tests.as_slice(), own, lower, out) {
@@ -132,6 +158,9 @@ pub fn holds(test: &Test, own: &[Bit9], lower: &mut [Bit9], out: &mut Vec<Bit9>)
     ensures same { out.new.items ≡ out.old.items }
     ensures capacity { vec_capacity out.old ≤ vec_capacity out.new }
 {
+    if let Some(bits) = standing(&test.left, own) {
+        return equal(bits, test.bits.as_slice());
+    }
     let start = out.len();
     append_expr(out, &test.left, own, lower);
     let same = equal(&out[start..], test.bits.as_slice());

@@ -1,16 +1,18 @@
 -- What a simulator stands for: the design that it runs and the state that it is in; and what its calls answer.
-use Rattle.std.specs.Prelude.{◌≡◌, ℕ, ◌-◌, ◌^◌, min, [], ◌∷◌, Option, Some, None, Result, Ok, Err, codes}
-use Rattle.vh_tree.specs.Bits.{Bits}
+use Rattle.std.specs.Prelude.{◌≡◌, ℕ, replicate, true, false, ◌-◌, ◌^◌, min, [], ◌∷◌, Option, Some, None, Result, Ok, Err, codes}
+use Rattle.vh_tree.specs.Bits.{Bytes, Bits}
 use Rattle.vh_tree.specs.Bench.{set_port}
-use Rattle.vh_tree.specs.StaticRules.{IsStatic}
+use Rattle.vh_tree.specs.StaticRules.{IsStatic, process_vars}
 use Rattle.vh_tree.specs.declared.design.Design.{Design}
 use Rattle.vh_tree.specs.declared.wire.State.{State}
 use Rattle.vh_tree.specs.declared.wire.Settled.{Settled}
 use Rattle.vh_flat.specs.Cycles.{State as Flat}
+use Rattle.vh_flat.specs.Names.{slots_of}
+use Rattle.vh_flat.specs.declared.slot.Slot.{Slot}
 use Rattle.vh_flat.specs.Resolving.{IsResolved}
 use Rattle.vh_flat.specs.Standing.{FitsDesign, state_at}
 use Rattle.rw_base.specs.declared.bit.Bit9.{Bit9}
-use Rattle.rw_base.specs.declared.bit.Bit9.TheVariants.{Zero}
+use Rattle.rw_base.specs.declared.bit.Bit9.TheVariants.{U, Zero}
 use Rattle.vhdl_cycle.specs.declared.unsettled.NotSettled.{NotSettled}
 use Rattle.vhdl_cycle.specs.declared.sim.Sim.{Sim}
 
@@ -18,13 +20,27 @@ use Rattle.vhdl_cycle.specs.declared.sim.Sim.{Sim}
 abbrev pub flat_of : Sim → Flat
 flat_of sim = record { now = sim.current.items; before = sim.before.items; next = sim.next.items; pending = sim.pending.items; starting = sim.starting }
 
+-- buffers of this many bits and flags before the start: all is 'U', and nothing is pending
+abbrev pub fresh_flat : ℕ → ℕ → Flat
+fresh_flat bits wires = record { now = replicate bits U; before = replicate bits U; next = replicate bits U; pending = replicate wires false; starting = true }
+
+-- where the bits of a port stand among those of all ports and signals
+pub record StandsAt (d : Design) (x : Bytes) (at : Slot) : Type 0 where
+  pub place : slots_of (process_vars d) x ≡ Some at
+
 -- a simulator runs this design
 pub record Simulates (d : Design) (sim : Sim) : Type 0 where
   pub static : IsStatic d
   pub resolved : IsResolved d sim.resolved
   pub fits : FitsDesign d (flat_of sim)
-  pub inp : sim.inp ≡ d.inp
-  pub outp : sim.outp ≡ d.outp
+  pub inp : StandsAt d (codes "inp") sim.inp
+  pub outp : StandsAt d (codes "outp") sim.outp
+
+-- two simulators run the same design with places, whose ports stand in the same places
+pub record IsSameMachine (old new : Sim) : Type 0 where
+  pub resolved : old.resolved ≡ new.resolved
+  pub inp : old.inp ≡ new.inp
+  pub outp : old.outp ≡ new.outp
 
 -- and is in this state of it
 abbrev pub state_of : Design → Sim → State
@@ -35,11 +51,11 @@ abbrev pub change_of : Sim → ℕ
 change_of sim = sim.change
 
 -- how many delta cycles a change has at most
-abbrev pub most_cycles : ℕ
+unfoldable pub most_cycles : ℕ
 most_cycles = 64
 
 -- the last value of a count of changes
-abbrev pub last_change : ℕ
+unfoldable pub last_change : ℕ
 last_change = 2 ^ 32 - 1
 
 -- `rst`, `clk` '0' and `inp` given values from outside

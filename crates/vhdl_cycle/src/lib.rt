@@ -5,6 +5,7 @@
 //! it for traces. Begin with `sim.rt` and `specs/Simulating.antt`.
 #![tactic(auto)]
 
+mod filled;
 mod sim;
 mod unsettled;
 
