@@ -6,7 +6,8 @@ use Rattle.vh_tree.specs.Bench.{Schedule, IsSchedule, clocked, given, on_ok, rea
 use Rattle.vh_tree.specs.declared.design.Design.{Design}
 use Rattle.vh_tree.specs.declared.wire.State.{State}
 use Rattle.rw_trace.specs.Traces.{line_of}
-use Rattle.vhdl_bench.specs.Showing.{most_cycles, lines_of, NeverSettles, IsShown}
+use Rattle.vhdl_cycle.specs.Simulating.{most_cycles}
+use Rattle.vhdl_bench.specs.Showing.{lines_of, NeverSettles, IsShown}
 use Rattle.vhdl_cycle.specs.declared.sim.Sim.{Sim}
 use Rattle.vhdl_bench.specs.declared.fail.BenchFail.{BenchFail}
 use Rattle.vhdl_bench.specs.declared.fail.BenchFail.TheVariants.{VhdlRefused, TraceRefused, NotSettled, OutOfMemory}

@@ -6,7 +6,7 @@ use Rattle.vh_tree.specs.Bench.{Schedule, IsSchedule, BenchInEveryOrder, bench_r
 use Rattle.vh_tree.specs.Laws.{TextOrderLaw}
 use Rattle.vh_tree.specs.declared.design.Design.{Design}
 use Rattle.rw_trace.specs.Traces.{trace_of}
-use Rattle.vhdl_bench.specs.Showing.{most_cycles, lines_of, inputs_of, ShowsText, NeverSettles, IsAccepted, BreaksText, IsSimulated, IsShown, IsUnlessMemory}
+use Rattle.vhdl_bench.specs.Showing.{lines_of, inputs_of, ShowsText, NeverSettles, IsAccepted, BreaksText, IsSimulated, IsShown, IsUnlessMemory}
 use Rattle.vhdl_bench.specs.Steps.{IsTextRead}
 use Rattle.vhdl_bench.specs.declared.fail.BenchFail.{BenchFail}
 use Rattle.vhdl_bench.specs.declared.fail.BenchFail.TheVariants.{VhdlRefused, TraceRefused, NotSettled, OutOfMemory}

@@ -10,6 +10,7 @@ use Rattle.vh_tree.specs.Bench.{Schedule, IsSchedule, BenchInEveryOrder, bench_r
 use Rattle.vh_tree.specs.Spelling.{IsSpelled}
 use Rattle.vh_tree.specs.StaticRules.{IsStatic}
 use Rattle.vh_tree.specs.declared.design.Design.{Design}
+use Rattle.vhdl_cycle.specs.Simulating.{most_cycles}
 use Rattle.vhdl_read.specs.Reading.{IsFirstBroken}
 use Rattle.rw_trace.specs.Traces.{trace_of, line_of}
 use Rattle.vhdl_bench.specs.declared.fail.BenchFail.{BenchFail}
@@ -18,10 +19,6 @@ use Rattle.vhdl_bench.specs.declared.fail.BenchFail.TheVariants.{VhdlRefused, Tr
 -- how many bytes a text has at most
 abbrev pub most_of_text : ℕ
 most_of_text = 67108864
-
--- how many delta cycles a change has at most
-abbrev pub most_cycles : ℕ
-most_cycles = 64
 
 -- a wire that is high or low
 abbrev pub wire_of : Bool → Bit9

@@ -5,9 +5,9 @@ use Rattle.vh_tree.specs.Bits.{Bits}
 use Rattle.vh_tree.specs.declared.design.Design.{Design}
 use Rattle.vh_tree.specs.declared.wire.State.{State}
 use Rattle.rw_base.specs.declared.rule.VRule.{VRule}
-use Rattle.vhdl_cycle.specs.Simulating.{Simulates, state_of, change_of}
+use Rattle.vhdl_cycle.specs.Simulating.{most_cycles, Simulates, state_of, change_of}
 use Rattle.vhdl_cycle.specs.declared.sim.Sim.{Sim}
-use Rattle.vhdl_bench.specs.Showing.{most_cycles, lines_of, IsAccepted, BreaksText}
+use Rattle.vhdl_bench.specs.Showing.{lines_of, IsAccepted, BreaksText}
 use Rattle.vhdl_bench.specs.declared.fail.BenchFail.{BenchFail}
 use Rattle.vhdl_bench.specs.declared.fail.BenchFail.TheVariants.{VhdlRefused, TraceRefused, NotSettled, OutOfMemory}
 

@@ -8,7 +8,7 @@ ghost use Rattle.vh_tree.specs.StaticRules.{IsStatic};
 ghost use Rattle.vh_tree.specs.declared.design.Design.{Design};
 ghost use Rattle.vhdl_cycle.specs.Simulating.{Simulates, state_of, change_of};
 ghost use Rattle.rw_trace.specs.Traces.{most_lines, line_of};
-ghost use Rattle.vhdl_bench.specs.Showing.{most_cycles, wire_of, inputs_of, IsShown};
+ghost use Rattle.vhdl_bench.specs.Showing.{wire_of, inputs_of, IsShown};
 ghost use Rattle.vhdl_bench.specs.Steps.{IsClocked, IsAfter};
 
 use crate::BenchFail;
@@ -48,7 +48,7 @@ fn reset(alloc: Global, design: &Design) -> Result<Sim, BenchFail>
 // One input: its cycle, and the line of what is read then.
 fn step(sim: &mut Sim, inp: &[Bit9], text: &mut Text) -> Result<(), BenchFail>
     ensures changed { (d : Design) → Simulates d sim.old → length inp.now ≡ d.inp → IsAfter d (change_of sim.old) (given inp.now (state_of d sim.old)) sim.new result }
-    ensures printed { (d : Design) → Simulates d sim.old → OnOk result (text.new ≡ text.old ++ line_of (outp_of (state_of d sim.new))) }
+    ensures printed { (d : Design) → Simulates d sim.old → length inp.now ≡ d.inp → OnOk result (text.new ≡ text.old ++ line_of (outp_of (state_of d sim.new))) }
 {
     match sim.cycle(Bit9::Zero, inp) {
         Ok(()) => {}
@@ -74,7 +74,10 @@ pub fn show(alloc: Global, design: &Design, inputs: &[Vec<bool>]) -> Result<Text
     let mut wires = Vec::new(alloc);
     for bits in inputs {
         put_wires(&mut wires, bits.as_slice())?;
-        step(&mut sim, wires.as_slice(), &mut text)?;
+        match step(&mut sim, wires.as_slice(), &mut text) {
+            Ok(()) => {}
+            Err(fail) => return Err(fail),
+        }
     }
     Ok(text)
 }
