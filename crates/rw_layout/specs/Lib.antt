@@ -1,0 +1,4 @@
+-- The words that public contracts rest on.
+pub mod Layout
+-- What functions inside promise each other.
+pub mod Steps

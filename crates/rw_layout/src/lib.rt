@@ -1,0 +1,17 @@
+//! Layout: `lay_out` inserts the braces and semicolons that lines and columns stand for, or gives the token at which
+//! blocks and brackets don't match (Haskell 2010 Report, section 10.3, in this project's profile).
+//!
+//! It leaves the grammar to the crate above, which sees braces and semicolons alone, written or inserted; `rw_lex` gives
+//! it tokens with their places. Begin with `specs/Layout.antt`, which has the rule in seven parts; then `layout.rt`
+//! with the public call, `step.rt` with what is done at one token, and `stack.rt`.
+#![tactic(auto)]
+
+mod entry;
+mod layout;
+mod role;
+mod stack;
+mod step;
+
+pub use entry::{Entry, Opener};
+pub use layout::lay_out;
+pub use role::{Before, Role};
