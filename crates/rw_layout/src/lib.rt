@@ -15,3 +15,6 @@ mod step;
 pub use entry::{Entry, Opener};
 pub use layout::lay_out;
 pub use role::{Before, Role};
+
+#[cfg(test)]
+mod tests;
