@@ -1,3 +1,5 @@
--- Lemmas: the stack as a list, one turn, the whole.
+-- Lemmas: the stack as a list, one turn, the laws.
 pub mod Stacks
 pub mod Turns
+pub mod Marks
+pub mod Balance

@@ -261,12 +261,12 @@ abbrev pub broken_at : Place → Refusal
 broken_at at = record { rule = E04; place = at }
 
 -- all blocks are closed; if an opener is left, the rule is broken at the lowest one
+abbrev pub closed_at_end : Place → Before → List Entry → Option Place → Result (List Token) Refusal
+closed_at_end at before stack None = Ok (opened_at_end before at ++ replicate (length stack) (closing at))
+closed_at_end at before stack (Some opener) = Err (broken_at opener)
+
 abbrev pub ended : Place → Before → List Entry → Result (List Token) Refusal
-ended at before stack = ended_by (lowest_opener stack)
-  where
-    ended_by : Option Place → Result (List Token) Refusal
-    ended_by None = Ok (opened_at_end before at ++ replicate (length stack) (closing at))
-    ended_by (Some opener) = Err (broken_at opener)
+ended at before stack = closed_at_end at before stack (lowest_opener stack)
 
 -- these tokens before what follows
 abbrev pub in_front : List Token → Result (List Token) Refusal → Result (List Token) Refusal

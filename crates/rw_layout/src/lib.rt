@@ -7,12 +7,14 @@
 #![tactic(auto)]
 
 mod entry;
+mod laws;
 mod layout;
 mod role;
 mod stack;
 mod step;
 
 pub use entry::{Entry, Opener};
+pub use laws::{layout_is_balanced, layout_keeps_tokens};
 pub use layout::lay_out;
 pub use role::{Before, Role};
 

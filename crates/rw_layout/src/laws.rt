@@ -1,0 +1,16 @@
+// Laws of the layout: what it keeps, and what it makes sure of. No code calls them.
+ghost use Rattle.std.specs.Prelude.{◌≡◌, List, Ok};
+ghost use Rattle.rw_lex.specs.declared.token.Token.{Token};
+ghost use Rattle.rw_layout.specs.Layout.{layout_of, last_place};
+ghost use Rattle.rw_layout.specs.Laws.{IsFilled, IsBalanced};
+
+/// A layout is the tokens, in their order, with nothing but braces and semicolons put between them, each at the place of
+/// the next token.
+pub fn layout_keeps_tokens()
+    ensures { (tokens filled : List Token) → layout_of tokens ≡ Ok filled → IsFilled (last_place tokens) tokens filled }
+{}
+
+/// The braces and parentheses of a layout match.
+pub fn layout_is_balanced()
+    ensures { (tokens filled : List Token) → layout_of tokens ≡ Ok filled → IsBalanced filled }
+{}
