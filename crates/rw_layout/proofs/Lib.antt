@@ -3,3 +3,4 @@ pub mod Stacks
 pub mod Turns
 pub mod Marks
 pub mod Balance
+pub mod Explicit

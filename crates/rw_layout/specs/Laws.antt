@@ -1,5 +1,5 @@
 -- What holds of every layout: it is the tokens with braces and semicolons put between them, and its brackets match.
-use Rattle.std.specs.Prelude.{◌≡◌, List, [], ◌∷◌, Option, Some, None}
+use Rattle.std.specs.Prelude.{◌≡◌, Bool, true, false, not, ◌&&◌, ◌||◌, List, [], ◌∷◌, Option, Some, None}
 use Rattle.std.specs.Option.{option_and_then}
 use Rattle.rw_base.specs.declared.place.Place.{Place}
 use Rattle.rw_lex.specs.declared.token.Token.{Token}
@@ -64,3 +64,32 @@ open_behind open_ones (token ∷ tokens) = option_and_then (λ (others : List Op
 -- the braces and parentheses match: each closer closes the innermost one, and none is left open
 abbrev pub IsBalanced : List Token → Type 0
 IsBalanced tokens = open_behind [] tokens ≡ Some []
+
+-- ---- sources whose blocks are all written
+
+-- `module`
+abbrev pub is_module : Role → Bool
+is_module r.Module = true
+is_module role = false
+
+-- `{`
+abbrev pub is_brace : Role → Bool
+is_brace (r.Opens o.Brace) = true
+is_brace role = false
+
+-- `where`, `let`, `do` or `of`
+abbrev pub begins_block : Role → Bool
+begins_block (r.Begins of_let) = true
+begins_block (r.Closes o.Case) = true
+begins_block role = false
+
+-- `{` stands behind each of these words; at first it is said whether one of them stands before the tokens
+abbrev pub has_braces : Bool → List Token → Bool
+has_braces word [] = not word
+has_braces true (token ∷ tokens) = is_brace (role_of token) && has_braces (begins_block (role_of token)) tokens
+has_braces false (token ∷ tokens) = has_braces (begins_block (role_of token)) tokens
+
+-- all blocks are written: the first token is `module` or `{`, and `{` stands behind each word that begins a block
+abbrev pub is_explicit : List Token → Bool
+is_explicit [] = false
+is_explicit (token ∷ tokens) = (is_module (role_of token) || is_brace (role_of token)) && has_braces (begins_block (role_of token)) tokens

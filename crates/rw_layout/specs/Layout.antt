@@ -63,12 +63,16 @@ semicolon at = inserted (codes ";") at
 abbrev pub closing : Place → Token
 closing at = inserted (codes "}") at
 
+-- what is done before a token: the tokens that are inserted, and the stack that is left
+abbrev pub Step : Type 0
+Step = List Token × List Entry
+
 -- so many blocks on top of the stack are closed, with a `}` for each
-abbrev pub close : ℕ → Place → List Entry → List Token × List Entry
+abbrev pub close : ℕ → Place → List Entry → Step
 close n at stack = (replicate n (closing at), drop n stack)
 
 -- these tokens before those of a step
-abbrev pub before_step : List Token → List Token × List Entry → List Token × List Entry
+abbrev pub before_step : List Token → Step → Step
 before_step tokens step = (tokens ++ step.0, step.1)
 
 -- ---- the stack
@@ -119,14 +123,14 @@ has_parts_at at (Some (e.Block n of_let)) = nat_eq n at.column
 has_parts_at at entry = false
 
 -- the blocks on top whose column is greater are closed, and a `;` follows if the block then on top has this column
-abbrev pub line_start : Place → List Entry → List Token × List Entry
+abbrev pub line_start : Place → List Entry → Step
 line_start at stack =
     let deeper = prefix_len (is_deeper at.column) stack in
     let separator = if has_parts_at at (slice_get stack deeper) then semicolon at ∷ [] else [] in
     (replicate deeper (closing at) ++ separator, drop deeper stack)
 
 -- it holds of the first token of a line, except `in`
-abbrev pub at_line_start : Bool → Role → Place → List Entry → List Token × List Entry
+abbrev pub at_line_start : Bool → Role → Place → List Entry → Step
 at_line_start first r.In at stack = ([], stack)
 at_line_start first role at stack = if first then line_start at stack else ([], stack)
 
@@ -145,17 +149,17 @@ opened b.Other role = None
 
 -- the block that opens at a token deeper than the one around it; elsewhere an empty block stands there, and the token
 -- counts as the first of its line
-abbrev pub open_block : Bool → Role → Place → List Entry → Option (List Token × List Entry)
+abbrev pub open_block : Bool → Role → Place → List Entry → Option Step
 open_block of_let role at stack =
     if nat_lt (enclosing stack) at.column then option_map (λ stack. (opening at ∷ [], stack)) (pushed (e.Block at.column of_let) stack)
     else Some (before_step (opening at ∷ closing at ∷ []) (at_line_start true role at stack))
 
 -- rules 1 and 2: what is inserted on account of where a token stands
-abbrev pub placed_as : Option Bool → Role → Token → List Entry → Option (List Token × List Entry)
+abbrev pub placed_as : Option Bool → Role → Token → List Entry → Option Step
 placed_as (Some of_let) role token stack = open_block of_let role token.at stack
 placed_as None role token stack = Some (at_line_start token.first role token.at stack)
 
-abbrev pub placed : Before → Token → List Entry → Option (List Token × List Entry)
+abbrev pub placed : Before → Token → List Entry → Option Step
 placed before token stack = placed_as (opened before (role_of token)) (role_of token) token stack
 
 -- ---- rule 3, openers
@@ -183,7 +187,7 @@ reopened o.If at stack = e.Open o.Then at ∷ stack
 reopened opener at stack = stack
 
 -- the blocks above the opener are closed, and it is popped; another entry or the end must not come first
-abbrev pub close_to : Opener → Place → List Entry → Option (List Token × List Entry)
+abbrev pub close_to : Opener → Place → List Entry → Option Step
 close_to opener at stack =
     if is_opener opener (nearest stack) then Some (replicate (blocks_of stack) (closing at), reopened opener at (drop (blocks_of stack + 1) stack)) else None
 
@@ -205,12 +209,12 @@ abbrev pub closed_by_in : List Entry → ℕ
 closed_by_in stack = let plain = prefix_len is_plain stack in if is_let_block (slice_get stack plain) then plain + 1 else 0
 
 -- it closes nothing behind a written `}` that closed the braces of a `let`
-abbrev pub in_behind : Before → Place → List Entry → List Token × List Entry
+abbrev pub in_behind : Before → Place → List Entry → Step
 in_behind b.LetEnd at stack = ([], stack)
 in_behind before at stack = close (closed_by_in stack) at stack
 
 -- ---- rules 3 to 6: what is inserted on account of what a token is
-abbrev pub acted : Role → Before → Place → List Entry → Option (List Token × List Entry)
+abbrev pub acted : Role → Before → Place → List Entry → Option Step
 acted (r.Opens opener) before at stack = option_map (λ stack. ([], stack)) (pushed (e.Open (known_as opener before) at) stack)
 acted (r.Closes opener) before at stack = close_to opener at stack
 acted r.Comma before at stack = Some (close (closed_by_comma stack) at stack)
@@ -237,10 +241,13 @@ pub record Turn : Type 0 where
   pub before : Before
   pub stack : List Entry
 
+-- a token behind two steps, of which the first is made on account of where it stands
+abbrev pub turn_with : Token → Step → Step → Turn
+turn_with token place act = record { tokens = place.0 ++ (act.0 ++ token ∷ []); before = asked (role_of token) place.1; stack = act.1 }
+
 -- a token behind what the rules insert before it
 abbrev pub turn_of : Before → Token → List Entry → Option Turn
-turn_of before token stack =
-    option_and_then (λ (place : List Token × List Entry). option_map (λ (act : List Token × List Entry). record { tokens = place.0 ++ (act.0 ++ token ∷ []); before = asked (role_of token) place.1; stack = act.1 }) (acted (role_of token) before token.at place.1)) (placed before token stack)
+turn_of before token stack = option_and_then (λ (place : Step). option_map (turn_with token place) (acted (role_of token) before token.at place.1)) (placed before token stack)
 
 -- ---- rule 7, the end
 

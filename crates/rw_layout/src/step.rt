@@ -6,6 +6,7 @@ ghost use Rattle.rw_layout.specs.Layout as spec;
 ghost use Rattle.rw_layout.specs.Steps.{Gives, laid, so_far, turn_behind};
 ghost use Rattle.rw_layout.specs.declared.role.Before.TheVariants as b;
 
+use crate::entry::{has_parts_at, is_let_block, is_let_brace, is_opener, known_as};
 use crate::role::role_of;
 use crate::stack::{Run, Stack, broken_at};
 use crate::{Before, Entry, Opener, Role};
@@ -22,57 +23,6 @@ pub struct Layout {
     pub before: Before,
     /// The blocks and openers around the next token.
     pub stack: Stack,
-}
-
-// The opener as the stack knows it: a `{` behind `let` is remembered as such.
-fn known_as(opener: Opener, before: Before) -> Opener
-    ensures { result ≡ spec.known_as opener before }
-{
-    match (opener, before) {
-        (Opener::Brace, Before::Word(true)) => Opener::LetBrace,
-        _ => opener,
-    }
-}
-
-// Whether the entry is the opener that is wanted.
-fn is_opener(wanted: Opener, entry: Option<Entry>) -> bool
-    ensures { result ≡ spec.is_opener wanted entry }
-{
-    let Some(Entry::Open(opener, _)) = entry else {
-        return false;
-    };
-    match wanted {
-        Opener::Paren => matches!(opener, Opener::Paren),
-        Opener::Brace => matches!(opener, Opener::Brace | Opener::LetBrace),
-        Opener::LetBrace => false,
-        Opener::Case => matches!(opener, Opener::Case),
-        Opener::If => matches!(opener, Opener::If),
-        Opener::Then => matches!(opener, Opener::Then),
-    }
-}
-
-// Whether the entry is a block of a `let`.
-fn is_let_block(entry: Option<Entry>) -> bool
-    ensures { result ≡ spec.is_let_block entry }
-{
-    matches!(entry, Some(Entry::Block(_, true)))
-}
-
-// Whether the entry is the written brace of a `let`.
-fn is_let_brace(entry: Option<Entry>) -> bool
-    ensures { result ≡ spec.is_let_brace entry }
-{
-    matches!(entry, Some(Entry::Open(Opener::LetBrace, _)))
-}
-
-// Whether the entry is a block of this column.
-fn has_parts_at(at: Place, entry: Option<Entry>) -> bool
-    ensures { result ≡ spec.has_parts_at at entry }
-{
-    match entry {
-        Some(Entry::Block(column, _)) => column == at.column,
-        _ => false,
-    }
 }
 
 // The same token again.
