@@ -4,21 +4,21 @@ use Rattle.std.specs.Prelude.{replicate}
 use Rattle.std.specs.List.{slice_get}
 use Rattle.std.specs.Option.{option_map, option_and_then}
 use Rattle.std.proofs.lemmas.List.{drop-drop}
+use Rattle.std.proofs.Math.Seq.{drop-cons}
+use Rattle.std.proofs.lemmas.Grind.{common_steps}
 use Rattle.rw_base.specs.declared.place.Place.{Place}
 use Rattle.rw_base.specs.declared.fail.Refusal.{Refusal}
+use Rattle.rw_base.specs.declared.fail.Fail.{Fail}
+use Rattle.rw_base.specs.declared.fail.Fail.TheVariants as fail
+use Rattle.rw_base.specs.declared.rule.Rule.TheVariants.{E04}
 use Rattle.rw_lex.specs.declared.token.Token.{Token}
+use Rattle.rw_lex.specs.Tokens.{Answers}
 use Rattle.rw_layout.specs.declared.entry.Opener.{Opener}
 use Rattle.rw_layout.specs.declared.entry.Entry.{Entry}
 use Rattle.rw_layout.specs.declared.role.Role.{Role}
 use Rattle.rw_layout.specs.declared.role.Before.{Before}
-use Rattle.rw_layout.specs.Layout.{Turn, closing, before_step, blocks_of, nearest, is_opener, reopened, close_to, placed, placed_as, opened, acted, asked, role_of, turn_of, broken_at, in_front, goes_on, layout_from, ended}
+use Rattle.rw_layout.specs.Layout.{Turn, closing, before_step, blocks_of, nearest, is_opener, reopened, close_to, placed, placed_as, opened, acted, asked, role_of, turn_of, broken_at, in_front, goes_on, layout_from, ended, closed_at_end, lowest_opener, last_place}
 use Rattle.rw_layout.specs.Steps.{turn_behind, Gives}
-use Rattle.rw_lex.specs.Tokens.{Answers}
-use Rattle.rw_base.specs.declared.fail.Fail.{Fail}
-use Rattle.rw_base.specs.declared.fail.Fail.TheVariants as fail
-use Rattle.std.proofs.Math.Seq.{drop-cons}
-use Rattle.std.proofs.lemmas.Grind.{common_steps}
-use Rattle.rw_layout.specs.Layout.{last_place}
 
 -- the blocks above an opener are closed, and it is popped
 pub close_found : (opener : Opener) (at : Place) (stack rest : List Entry) (out new : List Token) (blocks : ℕ) → blocks ≡ blocks_of stack → is_opener opener (slice_get stack blocks) ≡ true → new ≡ out ++ replicate blocks (closing at) → rest ≡ reopened opener at (drop 1 (drop blocks stack))
@@ -115,3 +115,22 @@ last_more tokens i token within is = grind (arith, common_steps)
 pub fails_on : {X : Type 0} (view : X → List Token) (failure : Fail) (at : Place) (new : Turn) (found : Option Turn) (whole : Result (List Token) Refusal) → Gives (Err failure) at new found → (found ≡ None → whole ≡ Err (broken_at at)) → Answers view (Err failure) whole
 fails_on view (fail.Refused refusal) at new found whole gives then = then gives.0 ∙ ap Err (sym gives.1)
 fails_on view fail.OutOfMemory at new found whole gives then = tt
+
+-- ---- refusals
+in_front-err : (front : List Token) (found : Result (List Token) Refusal) (refusal : Refusal) → in_front front found ≡ Err refusal → found ≡ Err refusal
+in_front-err front (Ok others) refusal is = absurd (cc)
+in_front-err front (Err other) refusal is = is
+
+turn_refuses : (at : Place) (follows : Before → List Entry → Result (List Token) Refusal) (turn : Option Turn) (refusal : Refusal) → ((before : Before) (stack : List Entry) → follows before stack ≡ Err refusal → refusal.rule ≡ E04) → goes_on at follows turn ≡ Err refusal → refusal.rule ≡ E04
+turn_refuses at follows None refusal f is = let same : broken_at at ≡ refusal = cc in sym (ap (λ (r : Refusal). r.rule) same)
+turn_refuses at follows (Some turn) refusal f is = f turn.before turn.stack (in_front-err turn.tokens (follows turn.before turn.stack) refusal is)
+
+end_refuses : (last : Place) (before : Before) (stack : List Entry) (opener : Option Place) (refusal : Refusal) → closed_at_end last before stack opener ≡ Err refusal → refusal.rule ≡ E04
+end_refuses last before stack None refusal is = absurd (cc)
+end_refuses last before stack (Some opener) refusal is = let same : broken_at opener ≡ refusal = cc in sym (ap (λ (r : Refusal). r.rule) same)
+
+-- each is by E04
+pub refuses_from : (last : Place) (tokens : List Token) (before : Before) (stack : List Entry) (refusal : Refusal) → layout_from last tokens before stack ≡ Err refusal → refusal.rule ≡ E04
+unfolding layout_from
+refuses_from last [] before stack refusal is = end_refuses last before stack (lowest_opener stack) refusal is
+refuses_from last (token ∷ tokens) before stack refusal is = turn_refuses token.at (layout_from last tokens) (turn_of before token stack) refusal (λ before1 stack1. refuses_from last tokens before1 stack1 refusal) is
