@@ -1,6 +1,8 @@
 -- Layout: where braces and semicolons are inserted between tokens (Haskell 2010 Report, section 10.3, in this
--- project's profile). The stack is a list of entries, the top first. A step gives the tokens that it inserts, and the
--- stack that it leaves; where it gives nothing, the rule E04 is broken.
+-- project's profile). The tokens are taken from left to right, with a stack of what is open around the next one: blocks
+-- with their columns, and openers. The stack is a list, its top first. At each token the parts of the rule are applied in
+-- order; each is a function from the stack to the tokens that are inserted and the stack that is left. Where one gives nothing,
+-- the rule E04 is broken at that token. `layout_of`, at the end, is the whole.
 use Rattle.std.specs.Prelude.{ℕ, ◌+◌, Bool, true, false, not, nat_eq, nat_lt, List, [], ◌∷◌, ◌++◌, length, drop, replicate, fold, codes, unwrap_or, Option, Some, None, Result, Ok, Err, if◌then◌else◌}
 use Rattle.std.specs.List.{prefix_len, slice_get}
 use Rattle.std.specs.Option.{option_map, option_and_then}
@@ -115,29 +117,33 @@ enclosing (e.Open o.Case at ∷ stack) = enclosing stack
 enclosing (e.Open o.If at ∷ stack) = enclosing stack
 enclosing (e.Open o.Then at ∷ stack) = enclosing stack
 
--- ---- rule 2, line starts
+-- ---- 2. Line start. At the first token of a line, but never at `in`: as long as a block is on top whose column is greater
+-- than the token's, it is popped and `}` inserted. If a block is then on top whose column is the token's, `;` is inserted. If
+-- something else is on top, nothing happens.
 
 -- this entry is a block of this column
 abbrev pub has_parts_at : Place → Option Entry → Bool
 has_parts_at at (Some (e.Block n of_let)) = nat_eq n at.column
 has_parts_at at entry = false
 
--- the blocks on top whose column is greater are closed, and a `;` follows if the block then on top has this column
+-- the deeper blocks on top are closed, and a `;` divides the parts of the block then on top, if it has this column
 abbrev pub line_start : Place → List Entry → Step
 line_start at stack =
     let deeper = prefix_len (is_deeper at.column) stack in
     let separator = if has_parts_at at (slice_get stack deeper) then semicolon at ∷ [] else [] in
     (replicate deeper (closing at) ++ separator, drop deeper stack)
 
--- it holds of the first token of a line, except `in`
+-- nothing is done where the token isn't the first of its line, or is `in`
 abbrev pub at_line_start : Bool → Role → Place → List Entry → Step
 at_line_start first r.In at stack = ([], stack)
 at_line_start first role at stack = if first then line_start at stack else ([], stack)
 
--- ---- rule 1, opening
+-- ---- 1. Opening. Before the first token a block opens, unless it is `module` or `{`; behind `where`, `let`, `do` and `of`
+-- one opens, unless `{` follows. If the next token's column is greater than that of the nearest block around it (0 if a written
+-- brace is nearer, or there is none), `{` is inserted and the block pushed, and part 2 is left out. Else `{` and `}` are inserted, and
+-- the token counts as the first of its line.
 
--- a block opens before the first token unless it is `module` or `{`, and behind `where`, `let`, `do` and `of` unless
--- `{` follows; if one opens, this says whether it is of a `let`
+-- whether a block opens before a token, and whether it is then of a `let`
 abbrev pub opened : Before → Role → Option Bool
 opened b.Nothing r.Module = None
 opened b.Nothing (r.Opens o.Brace) = None
@@ -147,14 +153,13 @@ opened (b.Word of_let) role = Some of_let
 opened b.LetEnd role = None
 opened b.Other role = None
 
--- the block that opens at a token deeper than the one around it; elsewhere an empty block stands there, and the token
--- counts as the first of its line
+-- the block that opens at a token
 abbrev pub open_block : Bool → Role → Place → List Entry → Option Step
 open_block of_let role at stack =
     if nat_lt (enclosing stack) at.column then option_map (λ stack. (opening at ∷ [], stack)) (pushed (e.Block at.column of_let) stack)
     else Some (before_step (opening at ∷ closing at ∷ []) (at_line_start true role at stack))
 
--- rules 1 and 2: what is inserted on account of where a token stands
+-- parts 1 and 2: what is inserted on account of where a token stands
 abbrev pub placed_as : Option Bool → Role → Token → List Entry → Option Step
 placed_as (Some of_let) role token stack = open_block of_let role token.at stack
 placed_as None role token stack = Some (at_line_start token.first role token.at stack)
@@ -162,14 +167,16 @@ placed_as None role token stack = Some (at_line_start token.first role token.at 
 abbrev pub placed : Before → Token → List Entry → Option Step
 placed before token stack = placed_as (opened before (role_of token)) (role_of token) token stack
 
--- ---- rule 3, openers
+-- ---- 3. Openers. `(`, `{`, `case` and `if` are pushed.
 
 -- a `{` behind `let` is remembered as such
 abbrev pub known_as : Opener → Before → Opener
 known_as o.Brace (b.Word true) = o.LetBrace
 known_as opener before = opener
 
--- ---- rule 4, closers
+-- ---- 4. Closers. `)`, `}`, `of`, `then` and `else` close the blocks on top, with a `}` for each, down to the `(`, `{`, `case`,
+-- `if` or `then` that they belong to, and pop it. If another entry or the end of the stack comes first, the rule is broken.
+-- `then` is pushed; behind `of` a block opens.
 
 -- the entry is the opener that is wanted
 abbrev pub is_opener : Opener → Option Entry → Bool
@@ -186,34 +193,35 @@ abbrev pub reopened : Opener → Place → List Entry → List Entry
 reopened o.If at stack = e.Open o.Then at ∷ stack
 reopened opener at stack = stack
 
--- the blocks above the opener are closed, and it is popped; another entry or the end must not come first
+-- the blocks above the opener are closed, and it is popped
 abbrev pub close_to : Opener → Place → List Entry → Option Step
 close_to opener at stack =
     if is_opener opener (nearest stack) then Some (replicate (blocks_of stack) (closing at), reopened opener at (drop (blocks_of stack + 1) stack)) else None
 
--- ---- rule 5, the comma
+-- ---- 5. Comma. If the nearest entry that is no block is `(`, the blocks above it are closed, with a `}` for each.
 
--- it closes the blocks above the nearest other entry if that is `(`
+-- how many blocks a comma closes
 abbrev pub closed_by_comma : List Entry → ℕ
 closed_by_comma stack = if is_opener o.Paren (nearest stack) then blocks_of stack else 0
 
--- ---- rule 6, `in`
+-- ---- 6. `in`. It closes the blocks down to the nearest one of a `let`, and that one, with a `}` for each. If an opener or the
+-- end of the stack comes first, nothing is closed; nor behind a written `}` that closed the braces of a `let`.
 
 -- the entry is a block of a `let`
 abbrev pub is_let_block : Option Entry → Bool
 is_let_block (Some (e.Block n of_let)) = of_let
 is_let_block entry = false
 
--- it closes the blocks up to and with the first of a `let`, none if another entry or the end comes first
+-- how many blocks it closes
 abbrev pub closed_by_in : List Entry → ℕ
 closed_by_in stack = let plain = prefix_len is_plain stack in if is_let_block (slice_get stack plain) then plain + 1 else 0
 
--- it closes nothing behind a written `}` that closed the braces of a `let`
+-- what it does, by what stands before it
 abbrev pub in_behind : Before → Place → List Entry → Step
 in_behind b.LetEnd at stack = ([], stack)
 in_behind before at stack = close (closed_by_in stack) at stack
 
--- ---- rules 3 to 6: what is inserted on account of what a token is
+-- ---- parts 3 to 6: what is inserted on account of what a token is
 abbrev pub acted : Role → Before → Place → List Entry → Option Step
 acted (r.Opens opener) before at stack = option_map (λ stack. ([], stack)) (pushed (e.Open (known_as opener before) at) stack)
 acted (r.Closes opener) before at stack = close_to opener at stack
@@ -221,7 +229,7 @@ acted r.Comma before at stack = Some (close (closed_by_comma stack) at stack)
 acted r.In before at stack = Some (in_behind before at stack)
 acted role before at stack = Some ([], stack)
 
--- ---- the whole
+-- ---- one token
 
 -- the entry is the written brace of a `let`
 abbrev pub is_let_brace : Option Entry → Bool
@@ -245,11 +253,12 @@ pub record Turn : Type 0 where
 abbrev pub turn_with : Token → Step → Step → Turn
 turn_with token place act = record { tokens = place.0 ++ (act.0 ++ token ∷ []); before = asked (role_of token) place.1; stack = act.1 }
 
--- a token behind what the rules insert before it
+-- a token behind all that is inserted before it
 abbrev pub turn_of : Before → Token → List Entry → Option Turn
 turn_of before token stack = option_and_then (λ (place : Step). option_map (turn_with token place) (acted (role_of token) before token.at place.1)) (placed before token stack)
 
--- ---- rule 7, the end
+-- ---- 7. End. A block that is to open is empty. All blocks are closed, with a `}` for each. If an opener is left, the rule is
+-- broken at the lowest one.
 
 -- the place of the lowest opener
 abbrev pub lowest_opener : List Entry → Option Place
@@ -267,13 +276,15 @@ opened_at_end before at = []
 abbrev pub broken_at : Place → Refusal
 broken_at at = record { rule = E04; place = at }
 
--- all blocks are closed; if an opener is left, the rule is broken at the lowest one
+-- what is inserted at the end, by the lowest opener, if one is left
 abbrev pub closed_at_end : Place → Before → List Entry → Option Place → Result (List Token) Refusal
 closed_at_end at before stack None = Ok (opened_at_end before at ++ replicate (length stack) (closing at))
 closed_at_end at before stack (Some opener) = Err (broken_at opener)
 
 abbrev pub ended : Place → Before → List Entry → Result (List Token) Refusal
 ended at before stack = closed_at_end at before stack (lowest_opener stack)
+
+-- ---- the whole
 
 -- these tokens before what follows
 abbrev pub in_front : List Token → Result (List Token) Refusal → Result (List Token) Refusal

@@ -1,4 +1,4 @@
-// What is done at one token: the seven parts of the rule, each with what it emits and the stack that it leaves.
+// What is done at one token: the parts of the rule, each with what it emits and the stack that it leaves.
 ghost use Rattle.std.specs.Prelude.{◌≡◌, ◌++◌, ◌∷◌, [], IfOk, OnOk};
 ghost use Rattle.std.specs.Option.{option_map};
 ghost use Rattle.rw_lex.specs.Tokens.{Answers};
