@@ -2,8 +2,8 @@
 //! blocks and brackets don't match (Haskell 2010 Report, section 10.3, in this project's profile).
 //!
 //! It leaves the grammar to the crate above, which sees braces and semicolons alone, written or inserted; `rw_lex` gives
-//! it tokens with their places. Begin with `specs/Layout.antt`, which has the rule in seven parts; then `layout.rt`
-//! with the public call, `step.rt` with what is done at one token, and `stack.rt`.
+//! it tokens with their places. Begin with `specs/Layout.antt`, which has the rule in seven parts, and `laws.rt`, which
+//! says what every layout keeps; then `layout.rt` with the public call, `step.rt` with one token, and `stack.rt`.
 #![tactic(auto)]
 
 mod entry;

@@ -63,6 +63,10 @@ fn layouts_written_out_by_hand(rt: HostRuntime) -> Result<(), Fail> {
         (b"".as_slice(), b"{ }".as_slice()),
         (b"f = do", b"{ f = do { } }"),
         (
+            b"f x = do\n  a <- b\n  case a of\n    C -> c\n    D -> let e = x\n             y = e\n         in y\ng = (case x of C -> d, do h) where\nk = m\n",
+            b"{ f x = do { a <- b ; case a of { C -> c ; D -> let { e = x ; y = e } in y } }\n; g = ( case x of { C -> d } , do { h } ) where { }\n; k = m }",
+        ),
+        (
             b"f = do\n  a <- b\n  c\ng = d",
             b"{ f = do { a <- b ; c } ; g = d }",
         ),
