@@ -1,3 +1,4 @@
+pub mod Driven
 pub mod Entries
 pub mod FromTheLast
 pub mod Here
