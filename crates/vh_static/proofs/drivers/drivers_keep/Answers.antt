@@ -1,5 +1,5 @@
 -- One driver of `outp`, and of each signal.
-use Rattle.std.proofs.Common.{◌≡◌, true, false, List, not, codes, sym, ap, ◌∙◌}
+use Rattle.std.proofs.Common.{◌≡◌, List, not, codes, sym, ap, ◌∙◌}
 use Rattle.std.specs.Prelude.{◌&&◌}
 use Rattle.std.specs.List.{list_all}
 use Rattle.vh_tree.specs.Bits.{Bytes}
