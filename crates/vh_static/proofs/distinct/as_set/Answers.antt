@@ -3,13 +3,13 @@ use Rattle.std.proofs.Common.{◌≡◌, ◌+◌, ◌-◌, ◌<◌, true, drop, 
 use Rattle.vh_tree.specs.Bits.{is_among}
 use Rattle.vh_static.specs.Tables.{known_in}
 use Rattle.vh_static.proofs.FromTheLast.{stops, goes_on, sees}
-use Rattle.vh_static.proofs.distinct.distinct.Goals as goal
+use Rattle.vh_static.proofs.distinct.as_set.Goals as goal
 
 pub returns-then-has : goal.returns-then-has
 returns-then-has c =
     let x = c.index-names-at.result in
     let again : is_among x (drop c.loop-at.at c.args.names.now) ≡ true = sym (c.loop-at.invariant.seen x) ∙ sym c.has.ensures ∙ c.if-has.true in
-    sym (stops c.args.names.now (c.loop-at.at - 1) c.loop-at.at x (omega arith) (omega arith) c.index-names-at.is again)
+    stops c.args.names.now (c.loop-at.at - 1) c.loop-at.at x (omega arith) (omega arith) c.index-names-at.is again
 
 pub loop-at-preserved : goal.loop-at-preserved
 loop-at-preserved c =
