@@ -1,11 +1,12 @@
 -- Statements, tests and rows of a process, one more at the end.
-use Rattle.std.proofs.Common.{◌≡◌, ℕ, List, [], ◌∷◌, ◌++◌, max, Bool, true, false, cond, refl, sym, ap, ◌∙◌, arith}
+use Rattle.std.proofs.Common.{◌≡◌, ℕ, List, [], ◌∷◌, ◌++◌, max, false, cond, refl, sym, ap, ◌∙◌, arith}
 use Rattle.vh_tree.specs.Bits.{Bits}
 use Rattle.vh_tree.specs.Functions.{World, Choice, Effect as Means, first_taken as taken_means}
 use Rattle.vh_flat.specs.Delta.{Coming, Effect, Taken, check_of, room_check, in_order, all_hold, first_taken, room_checks, room_in_order, room_first}
 use Rattle.vh_flat.specs.declared.process.Check.{Check}
 use Rattle.vh_flat.specs.declared.process.World.{World as Asked}
 use Rattle.vh_resolve.specs.Over.{RowsAgree}
+use Rattle.vh_resolve.proofs.Ordered.{both, same_test, same_choice}
 
 pub in_order_more : (es : List Effect) (e : Effect) (w : Asked) (n : ℕ) (now : Bits) (c : Coming) → in_order (es ++ e ∷ []) w n now c ≡ e.after w n now (in_order es w n now c)
 in_order_more [] e w n now c = refl
@@ -14,14 +15,6 @@ in_order_more (x ∷ es) e w n now c = in_order_more es e w n now (x.after w n n
 pub room_in_order_more : (es : List Effect) (e : Effect) (n : ℕ) (now : Bits) → room_in_order (es ++ e ∷ []) n now ≡ max (room_in_order es n now) (e.room n now)
 room_in_order_more [] e n now = omega arith
 room_in_order_more (x ∷ es) e n now = omega (arith, room_in_order_more es e n now)
-
-both : (b : Bool) (x y : Bool) → cond b (cond x y false) false ≡ cond (cond b x false) y false
-both true x y = refl
-both false x y = refl
-
-pub same_test : (b : Bool) → b ≡ cond b true false
-same_test true = refl
-same_test false = refl
 
 pub all_hold_more : (ts : List Check) (t : Check) (w : Asked) (n : ℕ) (now : Bits) → all_hold (ts ++ t ∷ []) w n now ≡ cond (all_hold ts w n now) (check_of t w n now) false
 all_hold_more [] t w n now = sym (same_test (check_of t w n now))
@@ -47,9 +40,6 @@ module _ (v : World Coming) (w : Asked) (n : ℕ) (now : Bits) (c : Coming) wher
   agree_more (x ∷ bs) (k ∷ ms) b m a t e = (a.0, a.1, agree_more bs ms b m a.2 t e)
   agree_more [] (k ∷ ms) b m a t e = absurd a
   agree_more (x ∷ bs) [] b m a t e = absurd a
-
-  same_choice : (a b : Bool) (x y s t : Coming) → a ≡ b → x ≡ y → s ≡ t → cond a x s ≡ cond b y t
-  same_choice a b x y s t e f g = ap (λ z. cond z x s) e ∙ ap (λ z. cond b z s) f ∙ ap (λ z. cond b y z) g
 
   pub agree_taken : (bs : List Taken) (ms : List (Choice Coming)) (other : List Effect) (last : Means Coming) →
       RowsAgree v w n now c bs ms → in_order other w n now c ≡ last v c → first_taken bs other w n now c ≡ taken_means Coming ms last v c

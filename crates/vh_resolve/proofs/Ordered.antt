@@ -18,11 +18,12 @@ pub room_in_order_more : (es : List Effect) (e : Effect) (n : ℕ) (frame : Bits
 room_in_order_more [] e n frame = omega arith
 room_in_order_more (x ∷ es) e n frame = omega (arith, room_in_order_more es e n (x.after n frame))
 
-both : (b : Bool) (x y : Bool) → cond b (cond x y false) false ≡ cond (cond b x false) y false
+-- tests that hold together, grouped from the left
+pub both : (b : Bool) (x y : Bool) → cond b (cond x y false) false ≡ cond (cond b x false) y false
 both true x y = refl
 both false x y = refl
 
-same_test : (b : Bool) → b ≡ cond b true false
+pub same_test : (b : Bool) → b ≡ cond b true false
 same_test true = refl
 same_test false = refl
 
@@ -50,7 +51,7 @@ agree_more w n frame (c ∷ bs) (k ∷ ms) b m a t e = (a.0, a.1, agree_more w n
 agree_more w n frame [] (k ∷ ms) b m a t e = absurd a
 agree_more w n frame (c ∷ bs) [] b m a t e = absurd a
 
-same_choice : (a b : Bool) (x y u v : Bits) → a ≡ b → x ≡ y → u ≡ v → cond a x u ≡ cond b y v
+pub same_choice : {S : Type 0} (a b : Bool) (x y u v : S) → a ≡ b → x ≡ y → u ≡ v → cond a x u ≡ cond b y v
 same_choice a b x y u v e f g = ap (λ z. cond z x u) e ∙ ap (λ z. cond b z u) f ∙ ap (λ z. cond b y z) g
 
 pub agree_taken : (w : World Bits) (n : ℕ) (frame : Bits) (bs : List Taken) (ms : List (Choice Bits)) (other : List Effect) (last : Means Bits) →

@@ -7,7 +7,7 @@ ghost use Rattle.vh_flat.specs.Flat.{expr_of, joined};
 ghost use Rattle.vh_flat.specs.Names.{value_over, called_over, scope_over};
 ghost use Rattle.vh_resolve.specs.Over.{slots_in, frames_in};
 
-use crate::sized::{Known, Parts, Sized, call, literal, part, slice};
+use crate::sized::{Known, Parts, Sized, call, cut, literal, part, slice};
 use crate::table::Table;
 use rw_base::OutOfMemory;
 use std::alloc::Global;
@@ -28,7 +28,9 @@ fn resolve_name(
     }
 }
 
+// A name without a place is that of a function without parameters, of whose value some bits are cut.
 fn resolve_slice(
+    alloc: Global,
     name: &Ident,
     high: u32,
     low: u32,
@@ -39,7 +41,10 @@ fn resolve_slice(
 {
     match slots.get(name) {
         Some(slot) => Ok(slice(*slot, high, low)),
-        None => Err(OutOfMemory),
+        None => {
+            let whole = resolve_name(alloc, name, slots, funs)?;
+            cut(alloc, whole, high, low)
+        }
     }
 }
 
@@ -70,7 +75,7 @@ pub fn resolve_expr(
     match e {
         VExpr::Name(name) => resolve_name(alloc, name, slots, funs),
         VExpr::Literal(bits) => literal(alloc, bits.as_slice()),
-        VExpr::Slice(name, high, low) => resolve_slice(name, *high, *low, slots, funs),
+        VExpr::Slice(name, high, low) => resolve_slice(alloc, name, *high, *low, slots, funs),
         VExpr::Call(name, args) => {
             let args = resolve_all(alloc, args.as_slice(), slots, funs)?;
             resolve_call(alloc, name, args, funs)

@@ -5,7 +5,7 @@ ghost use Rattle.vh_flat.specs.Flat.{expr_of, fun_of, joined, room_joined, calle
 ghost use Rattle.vh_flat.specs.declared.slot.Slot.{Slot as Stands};
 
 use rw_base::{Bit9, OutOfMemory};
-use sqlite_items::Items;
+use sqlite_items::{Boxed, Items};
 use std::alloc::Global;
 use std::rc::Rc;
 use vh_flat::{Expr, Fun, Slot};
@@ -71,6 +71,17 @@ pub fn slice(slot: Slot, high: u32, low: u32) -> Sized
         width,
         room: width,
     }
+}
+
+// The bits of a value from one down to another.
+pub fn cut(alloc: Global, whole: Sized, high: u32, low: u32) -> Result<Sized, OutOfMemory>
+    ensures { IfOk result (λ r. (n : ℕ) (frame : Bits) → (expr_of r.expr).value n frame ≡ slice_of high low ((expr_of whole.expr).value n frame)) }
+{
+    Ok(Sized {
+        expr: Expr::Cut(Boxed::new(alloc, whole.expr)?, high, low),
+        width: whole.width.min(high.saturating_sub(low).saturating_add(1)),
+        room: whole.room,
+    })
 }
 
 // These bits.

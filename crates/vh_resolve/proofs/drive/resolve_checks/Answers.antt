@@ -3,7 +3,8 @@ use Rattle.std.proofs.Common.{arith, List, ap, ◌∙◌}
 use Rattle.std.proofs.lemmas.Grind.{common_steps}
 use Rattle.vh_flat.specs.Delta.{all_hold, room_checks}
 use Rattle.vh_flat.specs.declared.process.Check.{Check}
-use Rattle.vh_resolve.proofs.Driven.{same_test, all_hold_more, room_checks_more}
+use Rattle.vh_resolve.proofs.Driven.{all_hold_more, room_checks_more}
+use Rattle.vh_resolve.proofs.Ordered.{same_test}
 use Rattle.vh_resolve.proofs.drive.resolve_checks.Goals as goal
 
 pub loop-test-preserved : goal.loop-test-preserved
