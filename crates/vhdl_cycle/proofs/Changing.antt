@@ -12,7 +12,8 @@ use Rattle.vh_flat.specs.Standing.{FitsDesign, state_at}
 use Rattle.vh_standing.specs.Changes.{GivenLaw, given_at}
 use Rattle.vhdl_cycle.specs.declared.unsettled.NotSettled.{NotSettled}
 use Rattle.vhdl_cycle.specs.declared.sim.Sim.{Sim}
-use Rattle.vhdl_cycle.specs.Simulating.{StandsAt, Simulates, IsSameMachine, flat_of, state_of, most_cycles, last_change, IsChanged}
+use Rattle.vhdl_cycle.specs.Buffers.{IsSameMachine}
+use Rattle.vhdl_cycle.specs.Simulating.{StandsAt, Simulates, flat_of, state_of, most_cycles, last_change, IsChanged}
 
 -- the width of the place of `inp`
 abbrev len_of : Option Slot → ℕ

@@ -9,7 +9,8 @@ use Rattle.vh_flat.specs.Resolving.{IsResolved}
 use Rattle.vh_flat.specs.Standing.{FitsDesign}
 use Rattle.vh_standing.specs.Changes.{CyclesLaw, SettlingLaw}
 use Rattle.vhdl_cycle.specs.declared.sim.Sim.{Sim}
-use Rattle.vhdl_cycle.specs.Simulating.{StandsAt, Simulates, IsSameMachine, flat_of, state_of, most_cycles}
+use Rattle.vhdl_cycle.specs.Buffers.{IsSameMachine}
+use Rattle.vhdl_cycle.specs.Simulating.{StandsAt, Simulates, flat_of, state_of, most_cycles}
 
 -- after any number of delta cycles the simulator runs the same design
 pub runs_on : CyclesLaw → TextOrderLaw → (sim new : Sim) → IsSameMachine sim new → Reaches sim.resolved.processes sim.resolved.store (flat_of sim) (flat_of new) →

@@ -1,5 +1,5 @@
 -- What a simulator stands for: the design that it runs and the state that it is in; and what its calls answer.
-use Rattle.std.specs.Prelude.{◌≡◌, ℕ, replicate, true, false, ◌-◌, ◌^◌, min, [], ◌∷◌, Option, Some, None, Result, Ok, Err, codes}
+use Rattle.std.specs.Prelude.{◌≡◌, ℕ, ◌-◌, ◌^◌, min, [], ◌∷◌, Option, Some, None, Result, Ok, Err, codes}
 use Rattle.vh_tree.specs.Bits.{Bytes, Bits}
 use Rattle.vh_tree.specs.Bench.{set_port}
 use Rattle.vh_tree.specs.StaticRules.{IsStatic, process_vars}
@@ -12,17 +12,13 @@ use Rattle.vh_flat.specs.declared.slot.Slot.{Slot}
 use Rattle.vh_flat.specs.Resolving.{IsResolved}
 use Rattle.vh_flat.specs.Standing.{FitsDesign, state_at}
 use Rattle.rw_base.specs.declared.bit.Bit9.{Bit9}
-use Rattle.rw_base.specs.declared.bit.Bit9.TheVariants.{U, Zero}
+use Rattle.rw_base.specs.declared.bit.Bit9.TheVariants.{Zero}
 use Rattle.vhdl_cycle.specs.declared.unsettled.NotSettled.{NotSettled}
 use Rattle.vhdl_cycle.specs.declared.sim.Sim.{Sim}
 
 -- the buffers of a simulator
 abbrev pub flat_of : Sim → Flat
 flat_of sim = record { now = sim.current.items; before = sim.before.items; next = sim.next.items; pending = sim.pending.items; starting = sim.starting }
-
--- buffers of this many bits and flags before the start: all is 'U', and nothing is pending
-abbrev pub fresh_flat : ℕ → ℕ → Flat
-fresh_flat bits wires = record { now = replicate bits U; before = replicate bits U; next = replicate bits U; pending = replicate wires false; starting = true }
 
 -- where the bits of a port stand among those of all ports and signals
 pub record StandsAt (d : Design) (x : Bytes) (at : Slot) : Type 0 where
@@ -36,13 +32,7 @@ pub record Simulates (d : Design) (sim : Sim) : Type 0 where
   pub inp : StandsAt d (codes "inp") sim.inp
   pub outp : StandsAt d (codes "outp") sim.outp
 
--- two simulators run the same design with places, whose ports stand in the same places
-pub record IsSameMachine (old new : Sim) : Type 0 where
-  pub resolved : old.resolved ≡ new.resolved
-  pub inp : old.inp ≡ new.inp
-  pub outp : old.outp ≡ new.outp
-
--- and is in this state of it
+-- and stands in this state of it
 abbrev pub state_of : Design → Sim → State
 state_of d sim = state_at d (flat_of sim)
 

@@ -11,3 +11,6 @@ mod unsettled;
 
 pub use sim::Sim;
 pub use unsettled::NotSettled;
+
+#[cfg(test)]
+mod tests;

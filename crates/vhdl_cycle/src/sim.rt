@@ -47,15 +47,12 @@ pub struct Sim {
 }
 
 impl Sim {
-    ghost use Rattle.std.specs.Prelude.{ℕ, ◌+◌, ◌∷◌, min, true, IfOk, IsOk, replicate, codes};
-    ghost use Rattle.vh_tree.specs.Bits.{Bytes};
+    ghost use Rattle.std.specs.Prelude.{ℕ, ◌+◌, ◌∷◌, min, IfOk, IsOk, replicate};
     ghost use Rattle.vh_tree.specs.DeltaCycle.{Orders, AreOrders};
-    ghost use Rattle.vh_tree.specs.Bench.{Schedule, IsSchedule, text_schedule, settled, start_of, clocked, or_change, set_port, edge as rising, outp_of, wires_of};
+    ghost use Rattle.vh_tree.specs.Bench.{Schedule, IsSchedule, text_schedule, settled, start_of, clocked, or_change, edge as rising, outp_of};
     ghost use Rattle.vh_tree.specs.StaticRules.{IsStatic};
     ghost use Rattle.vh_tree.specs.declared.design.Design.{Design};
-    ghost use Rattle.vh_flat.specs.Cycles.{IsSettling, Reaches};
-    ghost use Rattle.vh_standing.specs.Changes.{given_at};
-    ghost use Rattle.vhdl_cycle.specs.Simulating.{flat_of, fresh_flat, IsSameMachine, StandsAt, Simulates, state_of, change_of, most_cycles, last_change, given_with, IsSettled, IsChanged};
+    ghost use Rattle.vhdl_cycle.specs.Simulating.{Simulates, state_of, change_of, most_cycles, last_change, given_with, IsSettled, IsChanged};
 
     /// A simulator at the start of the bench, with `clk` '0', `rst` '1' and `inp` all '0' pending, which is change 1 and
     /// isn't settled. The static rules hold of the design.
@@ -74,6 +71,85 @@ impl Sim {
         sim.give(CLK, &[Bit9::Zero]);
         Ok(sim)
     }
+
+    /// Runs delta cycles until nothing is pending, at most 64, and answers how many. It is refused, with the number of
+    /// the last change, exactly where the design isn't quiet after any number of them up to 64 (IEEE Std 1076-1993,
+    /// section 12.6.4, without time).
+    pub fn settle(&mut self) -> Result<u32, NotSettled>
+        ensures runs { (d : Design) → Simulates d self.old → Simulates d self.new }
+        ensures value { (d : Design) → Simulates d self.old →
+            IsSettled (settled d (text_schedule d (change_of self.old)) most_cycles (state_of d self.old)) (change_of self.old) (state_of d self.new) result }
+        ensures every_order { (d : Design) → Simulates d self.old → (orders : Orders) → AreOrders d orders →
+            IsSettled (settled d orders most_cycles (state_of d self.old)) (change_of self.old) (state_of d self.new) result }
+        ensures change { change_of self.new ≡ change_of self.old }
+    {
+        cycles_law();
+        order_law();
+        match self.settle_buffers() {
+            Some(count) => Ok(count),
+            None => Err(NotSettled(self.change)),
+        }
+    }
+
+    /// One change more: `clk` '1'. It is refused, with the number of this change, exactly where that isn't quiet after
+    /// 64 delta cycles.
+    pub fn edge(&mut self) -> Result<(), NotSettled>
+        ensures runs { (d : Design) → Simulates d self.old → Simulates d self.new }
+        ensures value { (d : Design) → Simulates d self.old →
+            IsChanged (or_change (change_of self.old + 1) (settled d (text_schedule d (change_of self.old + 1)) most_cycles (rising (state_of d self.old)))) (state_of d self.new) result }
+        ensures every_order { (d : Design) → Simulates d self.old → (schedule : Schedule) → IsSchedule d schedule →
+            IsChanged (or_change (change_of self.old + 1) (settled d (schedule (change_of self.old + 1)) most_cycles (rising (state_of d self.old)))) (state_of d self.new) result }
+        ensures change { change_of self.new ≡ min (change_of self.old + 1) last_change }
+    {
+        order_law();
+        port_law();
+        self.count();
+        self.give(CLK, &[Bit9::One]);
+        self.finish()
+    }
+
+    /// Two changes more: `rst`, `clk` '0' and `inp`, the leftmost bit first, and then `clk` '1'. It is refused, with the
+    /// number of the first of them that isn't quiet after 64 delta cycles, exactly where there is one.
+    pub fn cycle(&mut self, rst: Bit9, inp: &[Bit9]) -> Result<(), NotSettled>
+        ensures runs { (d : Design) → Simulates d self.old → length inp.now ≡ d.inp → Simulates d self.new }
+        ensures value { (d : Design) → Simulates d self.old → length inp.now ≡ d.inp →
+            IsChanged (clocked most_cycles d (text_schedule d) (change_of self.old + 1) (given_with rst inp.now (state_of d self.old))) (state_of d self.new) result }
+        ensures every_order { (d : Design) → Simulates d self.old → length inp.now ≡ d.inp → (schedule : Schedule) → IsSchedule d schedule →
+            IsChanged (clocked most_cycles d schedule (change_of self.old + 1) (given_with rst inp.now (state_of d self.old))) (state_of d self.new) result }
+        ensures change { IsOk result → change_of self.new ≡ min (change_of self.old + 2) last_change }
+    {
+        order_law();
+        port_law();
+        self.count();
+        let at = self.inp;
+        self.give(at, inp);
+        self.give(CLK, &[Bit9::Zero]);
+        self.give(RST, &[rst]);
+        self.finish()?;
+        self.edge()
+    }
+
+    /// The bits of `outp` now, the leftmost first.
+    pub fn outp(&self) -> &[Bit9]
+        ensures { (d : Design) → Simulates d self.now → result.now ≡ outp_of (state_of d self.now) }
+    {
+        port_law();
+        self.outp.read(self.current.as_slice())
+    }
+}
+
+// What the calls are made of.
+impl Sim {
+    ghost use Rattle.std.specs.Prelude.{ℕ, ◌+◌, min, true, IfOk};
+    ghost use Rattle.vh_tree.specs.Bits.{Bytes};
+    ghost use Rattle.vh_tree.specs.DeltaCycle.{Orders, AreOrders};
+    ghost use Rattle.vh_tree.specs.Bench.{settled, or_change, set_port, wires_of};
+    ghost use Rattle.vh_tree.specs.StaticRules.{IsStatic};
+    ghost use Rattle.vh_tree.specs.declared.design.Design.{Design};
+    ghost use Rattle.vh_flat.specs.Cycles.{IsSettling, Reaches};
+    ghost use Rattle.vh_standing.specs.Changes.{given_at};
+    ghost use Rattle.vhdl_cycle.specs.Simulating.{flat_of, StandsAt, Simulates, state_of, change_of, most_cycles, last_change, IsChanged};
+    ghost use Rattle.vhdl_cycle.specs.Buffers.{fresh_flat, IsSameMachine};
 
     // A simulator before the start: all is 'U', and nothing is pending.
     fn fresh(alloc: Global, design: &Design) -> Result<Sim, OutOfMemory>
@@ -169,25 +245,6 @@ impl Sim {
         self.change = self.change.saturating_add(1);
     }
 
-    /// Runs delta cycles until nothing is pending, at most 64, and answers how many. It is refused, with the number of
-    /// the last change, exactly where the design isn't quiet after any number of them up to 64 (IEEE Std 1076-1993,
-    /// section 12.6.4, without time).
-    pub fn settle(&mut self) -> Result<u32, NotSettled>
-        ensures runs { (d : Design) → Simulates d self.old → Simulates d self.new }
-        ensures value { (d : Design) → Simulates d self.old →
-            IsSettled (settled d (text_schedule d (change_of self.old)) most_cycles (state_of d self.old)) (change_of self.old) (state_of d self.new) result }
-        ensures every_order { (d : Design) → Simulates d self.old → (orders : Orders) → AreOrders d orders →
-            IsSettled (settled d orders most_cycles (state_of d self.old)) (change_of self.old) (state_of d self.new) result }
-        ensures change { change_of self.new ≡ change_of self.old }
-    {
-        cycles_law();
-        order_law();
-        match self.settle_buffers() {
-            Some(count) => Ok(count),
-            None => Err(NotSettled(self.change)),
-        }
-    }
-
     // Settling over the buffers.
     fn settle_buffers(&mut self) -> Option<u32>
         ensures value { IsSettling self.old.resolved.processes self.old.resolved.store 64 (flat_of self.old) (flat_of self.new) result }
@@ -205,51 +262,5 @@ impl Sim {
             self.store.as_mut_slice(),
             &mut self.scratch,
         )
-    }
-
-    /// One change more: `clk` '1'. It is refused, with the number of this change, exactly where that isn't quiet after
-    /// 64 delta cycles.
-    pub fn edge(&mut self) -> Result<(), NotSettled>
-        ensures runs { (d : Design) → Simulates d self.old → Simulates d self.new }
-        ensures value { (d : Design) → Simulates d self.old →
-            IsChanged (or_change (change_of self.old + 1) (settled d (text_schedule d (change_of self.old + 1)) most_cycles (rising (state_of d self.old)))) (state_of d self.new) result }
-        ensures every_order { (d : Design) → Simulates d self.old → (schedule : Schedule) → IsSchedule d schedule →
-            IsChanged (or_change (change_of self.old + 1) (settled d (schedule (change_of self.old + 1)) most_cycles (rising (state_of d self.old)))) (state_of d self.new) result }
-        ensures change { change_of self.new ≡ min (change_of self.old + 1) last_change }
-    {
-        order_law();
-        port_law();
-        self.count();
-        self.give(CLK, &[Bit9::One]);
-        self.finish()
-    }
-
-    /// Two changes more: `rst`, `clk` '0' and `inp`, the leftmost bit first, and then `clk` '1'. It is refused, with the
-    /// number of the first of them that isn't quiet after 64 delta cycles, exactly where there is one.
-    pub fn cycle(&mut self, rst: Bit9, inp: &[Bit9]) -> Result<(), NotSettled>
-        ensures runs { (d : Design) → Simulates d self.old → length inp.now ≡ d.inp → Simulates d self.new }
-        ensures value { (d : Design) → Simulates d self.old → length inp.now ≡ d.inp →
-            IsChanged (clocked most_cycles d (text_schedule d) (change_of self.old + 1) (given_with rst inp.now (state_of d self.old))) (state_of d self.new) result }
-        ensures every_order { (d : Design) → Simulates d self.old → length inp.now ≡ d.inp → (schedule : Schedule) → IsSchedule d schedule →
-            IsChanged (clocked most_cycles d schedule (change_of self.old + 1) (given_with rst inp.now (state_of d self.old))) (state_of d self.new) result }
-        ensures change { IsOk result → change_of self.new ≡ min (change_of self.old + 2) last_change }
-    {
-        order_law();
-        port_law();
-        self.count();
-        let at = self.inp;
-        self.give(at, inp);
-        self.give(CLK, &[Bit9::Zero]);
-        self.give(RST, &[rst]);
-        self.finish()?;
-        self.edge()
-    }
-
-    /// The bits of `outp` now, the leftmost first.
-    pub fn outp(&self) -> &[Bit9]
-        ensures { (d : Design) → Simulates d self.now → result.now ≡ outp_of (state_of d self.now) }
-    {
-        port_law();
-        self.outp.read(self.current.as_slice())
     }
 }
