@@ -1,0 +1,7 @@
+// Equality: whether two trees are the same plain data.
+
+mod clause;
+mod decl;
+mod expr;
+mod pattern;
+mod types;
