@@ -1,5 +1,5 @@
 -- From one reading to the next.
-use Rattle.std.proofs.Common.{◌≡◌, ℕ, ◌+◌, ◌≤◌, List, [], ◌∷◌, ◌++◌, map, Result, Ok, Err, refl, ap, sym, ◌∙◌, arith}
+use Rattle.std.proofs.Common.{◌≡◌, ℕ, ◌+◌, ◌≤◌, List, [], ◌∷◌, ◌++◌, Result, Ok, Err, refl, ap, sym, ◌∙◌, arith}
 use Rattle.std.proofs.lemmas.Grind.{common_steps}
 use Rattle.vh_tree.specs.Bits.{Bits}
 use Rattle.vh_tree.specs.Bench.{Schedule, IsSchedule, clocked, given, on_ok, read_first, readings_from, bench_readings, outp_of, start_of}

@@ -1,8 +1,8 @@
 -- A text and a trace have one answer at most.
-use Rattle.std.proofs.Common.{◌≡◌, ◌⊎◌, inl, inr, ℕ, List, Bool, Option, Result, Ok, Err, IfOk, refl, ap, sym, subst, ◌∙◌}
+use Rattle.std.proofs.Common.{◌≡◌, inl, inr, ℕ, List, Bool, Result, Ok, Err, refl, ap, sym, subst, ◌∙◌}
 use Rattle.rw_base.specs.declared.rule.VRule.{VRule}
 use Rattle.vh_tree.specs.Bits.{Bits}
-use Rattle.vh_tree.specs.Bench.{Schedule, IsSchedule, BenchInEveryOrder, bench_readings, text_schedule}
+use Rattle.vh_tree.specs.Bench.{Schedule, text_schedule}
 use Rattle.vh_tree.specs.Laws.{TextOrderLaw}
 use Rattle.vh_tree.specs.declared.design.Design.{Design}
 use Rattle.rw_trace.specs.Traces.{trace_of}
@@ -148,11 +148,11 @@ pub exact_shown : TextOrderLaw → (text trace : List ℕ) (r : Found) → IsTex
     (given : Answer) → IsShown d (inputs_of bits) given → (other : Answer) → IsSimulated text trace other → IsUnlessMemory other given
 exact_shown law text trace r read d is bits good given shown (Ok lines) s =
     shown_once law d (inputs_of bits) (Ok lines) given
-      (shown_here d s.0 bits s.1 (found_accepted text r read d s.0 is s.2) (same_inputs text trace r read d s.0 is s.2 bits s.1 good s.3) (Ok lines) s.4) shown
+    (shown_here d s.0 bits s.1 (found_accepted text r read d s.0 is s.2) (same_inputs text trace r read d s.0 is s.2 bits s.1 good s.3) (Ok lines) s.4) shown
 exact_shown law text trace r read d is bits good given shown (Err (VhdlRefused rule)) s = found_broken text r read d is rule s
 exact_shown law text trace r read d is bits good given shown (Err (TraceRefused line)) s =
     lines_or_line bits line (read_by d trace) good (ap (λ e. read_by e trace) (found_accepted text r read d s.0 is s.1) ∙ s.2)
 exact_shown law text trace r read d is bits good given shown (Err (NotSettled k)) s =
     shown_once law d (inputs_of bits) (Err (NotSettled k)) given
-      (shown_here d s.0 bits s.1 (found_accepted text r read d s.0 is s.2) (same_inputs text trace r read d s.0 is s.2 bits s.1 good s.3) (Err (NotSettled k)) s.4) shown
+    (shown_here d s.0 bits s.1 (found_accepted text r read d s.0 is s.2) (same_inputs text trace r read d s.0 is s.2 bits s.1 good s.3) (Err (NotSettled k)) s.4) shown
 exact_shown law text trace r read d is bits good given shown (Err OutOfMemory) s = absurd s

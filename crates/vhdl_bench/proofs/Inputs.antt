@@ -5,7 +5,6 @@ use Rattle.std.proofs.lemmas.List.Folds.{list_all_at}
 use Rattle.std.proofs.lemmas.Grind.{common_steps}
 use Rattle.std.proofs.lemmas.Bool.{eqb-true}
 use Rattle.std.specs.List.{list_all}
-use Rattle.rw_base.specs.declared.bit.Bit9.{Bit9}
 use Rattle.rw_trace.specs.Traces.{most_lines}
 use Rattle.vhdl_bench.specs.Showing.{wire_of}
 

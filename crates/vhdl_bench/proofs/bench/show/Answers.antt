@@ -1,12 +1,10 @@
-use Rattle.std.proofs.Common.{rules, ◌≡◌, ℕ, ◌+◌, ◌*◌, ◌≤◌, ◌<◌, List, Bool, [], ◌∷◌, ◌++◌, map, drop, length, nat_eq, Ok, Err, refl, ap, sym, subst, ◌∙◌, arith}
+use Rattle.std.proofs.Common.{◌≡◌, ◌+◌, ◌≤◌, [], ◌∷◌, ◌++◌, map, drop, length, nat_eq, ap, sym, subst, ◌∙◌, arith}
 use Rattle.std.proofs.lemmas.Grind.{common_steps}
-use Rattle.rw_base.specs.declared.bit.Bit9.{Bit9}
-use Rattle.vh_tree.specs.Bits.{Bits}
-use Rattle.vh_tree.specs.Bench.{given, outp_of}
-use Rattle.rw_trace.specs.Traces.{most_lines, line_of}
+use Rattle.vh_tree.specs.Bench.{outp_of}
+use Rattle.rw_trace.specs.Traces.{line_of}
 use Rattle.vhdl_cycle.specs.Simulating.{state_of, change_of}
 use Rattle.vhdl_bench.specs.Showing.{wire_of, inputs_of}
-use Rattle.vhdl_bench.specs.Steps.{HasRead, IsAfter}
+use Rattle.vhdl_bench.specs.Steps.{HasRead}
 use Rattle.vhdl_bench.proofs.Benching.{reset_failed, reset_read, input_failed, input_read, all_read}
 use Rattle.vhdl_bench.proofs.Inputs.{cut_here, holds_here, width_here, lines_are}
 use Rattle.vhdl_bench.proofs.bench.show.Goals as goal
@@ -41,10 +39,10 @@ returns-in-Err-step c =
     let cut : drop index c.args.inputs.now ≡ item ∷ drop (index + 1) c.args.inputs.now = cut_here c.args.inputs.now index item c.loop-bits-test.true c.bits-item.is in
     let wires : map wire_of item.items ≡ inp = sym (c.as_slice-in-loop-bits.ensures.value ∙ c.in_ok-put_wires.ensures ∙ ap (map wire_of) c.as_slice.ensures.value) in
     let wide : length inp ≡ d.inp =
-        ap length (sym wires) ∙ width_here d.inp item.items (holds_here (λ bits. nat_eq (length bits.items) d.inp) c.args.inputs.now index item c.loop-bits-test.true c.bits-item.is c.requires.widths) in
+    ap length (sym wires) ∙ width_here d.inp item.items (holds_here (λ bits. nat_eq (length bits.items) d.inp) c.args.inputs.now index item c.loop-bits-test.true c.bits-item.is c.requires.widths) in
     let read : HasRead d all (change + 1) high (inp ∷ later) c.loop-bits.text =
-        subst (λ i. HasRead d all (change + 1) high (i ∷ later) c.loop-bits.text) wires
-        (subst (λ xs. HasRead d all (change + 1) high (inputs_of (map (λ bits. bits.items) xs)) c.loop-bits.text) cut c.loop-bits.invariant.read) in
+    subst (λ i. HasRead d all (change + 1) high (i ∷ later) c.loop-bits.text) wires
+    (subst (λ xs. HasRead d all (change + 1) high (inputs_of (map (λ bits. bits.items) xs)) c.loop-bits.text) cut c.loop-bits.invariant.read) in
     let few : change + 2 ≤ 4294967295 = omega (arith, c.loop-bits.invariant.count, c.loop-bits-test.true, c.requires.few, lines_are) in
     input_failed d all change high inp later c.loop-bits.text c.step.new.sim c.in-Err-step.fail few read (c.in-Err-step.ensures.changed d c.loop-bits.invariant.runs wide)
 
@@ -61,10 +59,10 @@ loop-bits-preserved c =
     let cut : drop index c.args.inputs.now ≡ item ∷ drop (index + 1) c.args.inputs.now = cut_here c.args.inputs.now index item c.loop-bits-test.true c.bits-item.is in
     let wires : map wire_of item.items ≡ inp = sym (c.as_slice-in-loop-bits.ensures.value ∙ c.in_ok-put_wires.ensures ∙ ap (map wire_of) c.as_slice.ensures.value) in
     let wide : length inp ≡ d.inp =
-        ap length (sym wires) ∙ width_here d.inp item.items (holds_here (λ bits. nat_eq (length bits.items) d.inp) c.args.inputs.now index item c.loop-bits-test.true c.bits-item.is c.requires.widths) in
+    ap length (sym wires) ∙ width_here d.inp item.items (holds_here (λ bits. nat_eq (length bits.items) d.inp) c.args.inputs.now index item c.loop-bits-test.true c.bits-item.is c.requires.widths) in
     let read : HasRead d all (change + 1) high (inp ∷ later) c.loop-bits.text =
-        subst (λ i. HasRead d all (change + 1) high (i ∷ later) c.loop-bits.text) wires
-        (subst (λ xs. HasRead d all (change + 1) high (inputs_of (map (λ bits. bits.items) xs)) c.loop-bits.text) cut c.loop-bits.invariant.read) in
+    subst (λ i. HasRead d all (change + 1) high (i ∷ later) c.loop-bits.text) wires
+    (subst (λ xs. HasRead d all (change + 1) high (inputs_of (map (λ bits. bits.items) xs)) c.loop-bits.text) cut c.loop-bits.invariant.read) in
     let few : change + 2 ≤ 4294967295 = omega (arith, c.loop-bits.invariant.count, c.loop-bits-test.true, c.requires.few, lines_are) in
     let at = c.in-Ok-step.ensures.changed d c.loop-bits.invariant.runs wide few in
     let next = state_of d c.step.new.sim in
@@ -75,7 +73,7 @@ loop-bits-preserved c =
       runs = at.runs;
       count = omega (arith, count, c.loop-bits.invariant.count);
       read = subst (λ t. HasRead d all (change_of c.step.new.sim + 1) next later t) text
-        (subst (λ n. HasRead d all n next later (c.loop-bits.text ++ line_of (outp_of next))) later_change (input_read d all (change + 1) high next inp later c.loop-bits.text read at.led));
+          (subst (λ n. HasRead d all n next later (c.loop-bits.text ++ line_of (outp_of next))) later_change (input_read d all (change + 1) high next inp later c.loop-bits.text read at.led));
     }
 
 pub returns : goal.returns
@@ -84,4 +82,4 @@ returns c =
     let all = inputs_of (map (λ bits. bits.items) c.args.inputs.now) in
     let end : drop c.loop-bits.bits-index c.args.inputs.now ≡ [] = grind (arith, common_steps) in
     all_read d all (change_of c.loop-bits.sim + 1) (state_of d c.loop-bits.sim) c.loop-bits.text
-      (subst (λ xs. HasRead d all (change_of c.loop-bits.sim + 1) (state_of d c.loop-bits.sim) (inputs_of (map (λ bits. bits.items) xs)) c.loop-bits.text) end c.loop-bits.invariant.read)
+    (subst (λ xs. HasRead d all (change_of c.loop-bits.sim + 1) (state_of d c.loop-bits.sim) (inputs_of (map (λ bits. bits.items) xs)) c.loop-bits.text) end c.loop-bits.invariant.read)
