@@ -1,4 +1,4 @@
-//! The program's one call: it reads the words, loads, compiles and saves, and answers with a status, whose line it
+//! The program's one call: it reads the words, loads, compiles and saves, or simulates and prints, and answers with a status, whose line it
 //! puts to `err`.
 //!
 //! It leaves every language to the crates below, and the system's files and streams to `rewire_cli`, whose `main`
@@ -8,6 +8,7 @@
 
 mod compile;
 mod line;
+mod simulated;
 mod status;
 mod top;
 mod words;
@@ -15,5 +16,7 @@ mod words;
 pub use status::Status;
 pub use top::rewire;
 
+#[cfg(test)]
+mod sim_tests;
 #[cfg(test)]
 mod tests;

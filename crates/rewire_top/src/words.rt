@@ -7,6 +7,8 @@ ghost use Rattle.rewire_top.specs.Commands.{command_of};
 pub enum Asked<'a> {
     // `compile FILE OUT`
     Compile(&'a str, &'a str),
+    // `sim VHDL TRACE`
+    Sim(&'a str, &'a str),
     // They are no command.
     Nothing,
 }
@@ -19,6 +21,7 @@ pub fn read_words<'a>(words: &'a [String]) -> Asked<'a>
         [word, file, target] if word.as_str() == "compile" => {
             Asked::Compile(file.as_str(), target.as_str())
         }
+        [word, vhdl, trace] if word.as_str() == "sim" => Asked::Sim(vhdl.as_str(), trace.as_str()),
         _ => Asked::Nothing,
     }
 }

@@ -1,147 +1,110 @@
-// Two passes made one, and the prelude with its copy.
-ghost use Rattle.std.specs.Prelude.{◌≡◌, ◌<◌};
+// Copies and equality, once for each type, at spans as annotations.
 
-use crate::{Decl, Denotes, Pass, Program, Then, prelude_decls};
-use rw_base::{OutOfMemory, Span};
+use crate::{
+    Alt, Annotation, Constructor, DataDecl, Decl, Expr, Guard, Kind, Local, Pat, Program, Rhs,
+    Stmt, TyNode, Typed, Written,
+};
+use rw_base::{Name, OutOfMemory, Place, Span};
 use sqlite_items::Items;
 use std::alloc::Global;
 
-/// A wire of one bit with buffers on it, which shows its inputs.
-#[derive(Drop)]
-struct Wire {
-    buffers: u32,
+const AT: Span = Span {
+    first: Place { line: 1, column: 1 },
+    from: 0,
+    to: 1,
+};
+
+/// A list of one item.
+fn one<T: Drop>(alloc: Global, item: T) -> Result<Items<T>, OutOfMemory> {
+    let mut items = Items::new(alloc);
+    items.push(item)?;
+    Ok(items)
 }
 
-impl Denotes for Wire {
-    ghost denotes = { λ _ inputs outputs. outputs ≡ inputs };
-
-    ghost in_width = { λ _. 1 };
-
-    ghost out_width = { λ _. 1 };
-
-    ghost size = { λ wire. wire.buffers };
-
-    ghost is_fit = { λ wire. 0 < wire.buffers };
+/// The type `name`.
+fn written(alloc: Global, name: &[u8]) -> Result<Written, OutOfMemory> {
+    Ok(Written::Con(Name::from_slice(alloc, name)?))
 }
 
-/// Takes half of the buffers away, rounded down, but for the last.
-struct Halve;
-
-/// Takes one buffer away, but for the last.
-struct Spare;
-
-impl Pass for Halve {
-    type In = Wire;
-
-    type Out = Wire;
-
-    fn run(&self, _alloc: Global, input: &Wire) -> Result<Wire, OutOfMemory> {
-        Ok(Wire {
-            buffers: input.buffers - input.buffers / 2,
-        })
-    }
+/// `x`.
+fn variable(alloc: Global) -> Result<Expr<Span>, OutOfMemory> {
+    Ok(Expr::Var(AT, Name::from_slice(alloc, b"x")?))
 }
 
-impl Pass for Spare {
-    type In = Wire;
-
-    type Out = Wire;
-
-    fn run(&self, _alloc: Global, input: &Wire) -> Result<Wire, OutOfMemory> {
-        Ok(Wire {
-            buffers: if input.buffers > 1 {
-                input.buffers - 1
-            } else {
-                1
-            },
-        })
-    }
+/// `do { x }`, with this test: `| do { x } = x`.
+fn guard(alloc: Global) -> Result<Guard<Span>, OutOfMemory> {
+    let run = Stmt::Run(AT, variable(alloc)?);
+    let test = Expr::Do(AT, one(alloc, run)?);
+    Ok(Guard {
+        test,
+        body: variable(alloc)?,
+    })
 }
 
-#[test]
-fn two_passes_run_one_after_the_other(rt: HostRuntime) -> Result<(), OutOfMemory> {
-    let wire = Wire { buffers: 9 };
-    let halved = Then {
-        first: Halve,
-        second: Spare,
-    }
-    .run(rt.alloc(), &wire)?;
-    assert_eq!(rt; halved.buffers, 4);
-    Ok(())
+/// A clause of one pattern, `_`, and of one guard; after `where` it declares that `x` has the type `name`.
+fn clause(alloc: Global, name: &[u8]) -> Result<Alt<Span>, OutOfMemory> {
+    let guards = one(alloc, guard(alloc)?)?;
+    let local = Local::Sig(AT, Name::from_slice(alloc, b"x")?, written(alloc, name)?);
+    let wheres = one(alloc, local)?;
+    Ok(Alt {
+        at: AT,
+        pats: one(alloc, Pat::Wild(AT))?,
+        rhs: Rhs::Guarded(guards),
+        wheres,
+    })
 }
 
-/// The name that a declaration declares, the first of several.
-fn name_of(decl: &Decl<Span>) -> &[u8] {
-    match decl {
-        Decl::Import(_, name) => name.as_slice(),
-        Decl::Fun(_, name, _) => name.as_slice(),
-        Decl::Data(_, data) => data.name.as_slice(),
-        Decl::Fixity(_, _, _, names) => match names.get(0) {
-            Some(name) => name.as_slice(),
-            None => b"",
-        },
-        Decl::Sig(_, names, _) => match names.get(0) {
-            Some(name) => name.as_slice(),
-            None => b"",
-        },
-    }
-}
-
-#[test]
-fn prelude_and_its_copy_stand_in_order(rt: HostRuntime) -> Result<(), OutOfMemory> {
-    let program = Program {
-        decls: prelude_decls(rt.alloc())?,
-        types: Items::new(rt.alloc()),
+/// `data T = T name`.
+fn data(alloc: Global, name: &[u8]) -> Result<DataDecl, OutOfMemory> {
+    let fields = one(alloc, written(alloc, name)?)?;
+    let constructor = Constructor {
+        name: Name::from_slice(alloc, b"T")?,
+        fields,
     };
-    let copy = program.copied(rt.alloc())?;
-    let names = [
-        ".",
-        "&&",
-        "||",
-        ">>=",
-        "$",
-        "Bool",
-        "Maybe",
-        "Either",
-        "id",
-        "id",
-        "const",
-        "const",
-        "flip",
-        "flip",
-        ".",
-        ".",
-        "$",
-        "$",
-        "not",
-        "not",
-        "&&",
-        "&&",
-        "||",
-        "||",
-        "otherwise",
-        "otherwise",
-        "fst",
-        "fst",
-        "snd",
-        "snd",
-        "curry",
-        "curry",
-        "uncurry",
-        "uncurry",
-        "maybe",
-        "maybe",
-        "either",
-        "either",
-        "when",
-        "when",
-    ];
-    assert_eq!(rt; copy.decls.len(), names.len());
-    for (i, decl) in copy.decls.as_slice().iter().enumerate() {
-        match names.get(i) {
-            Some(name) => assert!(rt; name_of(decl) == name.as_bytes(), "at {i}"),
-            None => assert!(rt; false, "at {i}"),
-        }
-    }
+    let constructors = one(alloc, constructor)?;
+    Ok(DataDecl {
+        name: Name::from_slice(alloc, b"T")?,
+        params: Items::new(alloc),
+        constructors,
+    })
+}
+
+/// The function `f` of this clause, alone.
+fn program(alloc: Global, clause: Alt<Span>) -> Result<Program<Span>, OutOfMemory> {
+    let clauses = one(alloc, clause)?;
+    let decl = Decl::Fun(AT, Name::from_slice(alloc, b"f")?, clauses);
+    let decls = one(alloc, decl)?;
+    Ok(Program {
+        decls,
+        types: one(alloc, TyNode::Fun(0, 1))?,
+    })
+}
+
+#[test]
+fn a_program_equals_its_copy_and_no_other_program(rt: HostRuntime) -> Result<(), OutOfMemory> {
+    let first = program(rt.alloc(), clause(rt.alloc(), b"Bool")?)?;
+    let other = program(rt.alloc(), clause(rt.alloc(), b"Maybe")?)?;
+    let copy = first.copied(rt.alloc())?;
+    assert!(rt; copy.is(&first));
+    assert!(rt; !copy.is(&other));
     Ok(())
+}
+
+#[test]
+fn a_data_type_equals_its_copy_and_no_other(rt: HostRuntime) -> Result<(), OutOfMemory> {
+    let first = data(rt.alloc(), b"Bool")?;
+    let copy = first.copied(rt.alloc())?;
+    assert!(rt; copy.is(&first));
+    assert!(rt; !copy.is(&data(rt.alloc(), b"Maybe")?));
+    Ok(())
+}
+
+#[test]
+fn kinds_and_annotations_equal_themselves_alone(rt: HostRuntime) {
+    assert!(rt; Kind::Monad.is(&Kind::Monad));
+    assert!(rt; !Kind::Monad.is(&Kind::StateMonad));
+    let typed = Typed { span: AT, ty: 2 };
+    assert!(rt; typed.is(&typed));
+    assert!(rt; !typed.is(&Typed { span: AT, ty: 3 }));
+    assert!(rt; ().is(&()));
 }

@@ -5,7 +5,7 @@ use Rattle.vh_tree.specs.StaticRules.{are_distinct}
 use Rattle.vh_static.proofs.Here.{cons_at}
 use Rattle.vh_static.proofs.Same.{swapped}
 
-right : (a b : Bool) → (a && b) ≡ true → b ≡ true
+pub right : (a b : Bool) → (a && b) ≡ true → b ≡ true
 right true b h = h
 right false b h = absurd (true≢false (sym h))
 
@@ -14,11 +14,11 @@ later zero xs h = h
 later (suc n) [] h = refl
 later (suc n) (x ∷ xs) h = later n xs (right (not (is_among x xs)) (are_distinct xs) h)
 
-against : (b : Bool) → (b ≡ true → ⊥) → b ≡ false
+pub against : (b : Bool) → (b ≡ true → ⊥) → b ≡ false
 against true h = absurd (h refl)
 against false h = refl
 
-one_more : {V : Type 0} (b : Bool) (v : V) (r : Option V) → is_some (if b then Some v else r) ≡ (b || is_some r)
+pub one_more : {V : Type 0} (b : Bool) (v : V) (r : Option V) → is_some (if b then Some v else r) ≡ (b || is_some r)
 one_more true v r = refl
 one_more false v r = refl
 

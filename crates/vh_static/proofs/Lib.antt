@@ -1,7 +1,10 @@
+pub mod Behind
+pub mod Driven
 pub mod Entries
+pub mod Filled
 pub mod FromTheLast
 pub mod Here
-pub mod Items
+pub mod Later
 pub mod Parts
 pub mod Same
 pub mod Statements

@@ -39,18 +39,10 @@ module _ (a : Bytes → VExpr → Bool) (t : Test → Bool) where
       ∙ sym (branch_keeps-Branch a t b ∙ ap (λ z. list_all t b.tests && z) (each_true (keeps a t) b.body) ∙ ap (λ (z : Bool). z && list_all (keeps a t) b.body) (ap (list_all t) (sym c) ∙ sym h ∙ k))
 
 module _ (x : Bytes) where
-  ways : (s : VStmt) (bs : List Branch) (os : List VStmt) → s ≡ If bs os → assigns x s ≡ (list_any (branch_assigns x) bs || list_any (assigns x) os)
+  -- an `if` assigns by its branches and its `else`, and a branch by its statements
+  pub ways : (s : VStmt) (bs : List Branch) (os : List VStmt) → s ≡ If bs os → assigns x s ≡ (list_any (branch_assigns x) bs || list_any (assigns x) os)
   ways s bs os is =
       ap (assigns x) is ∙ assigns-If x bs os ∙ ap (λ b. b || any_true (map (assigns x) os)) (one_true (branch_assigns x) bs) ∙ ap (λ b. list_any (branch_assigns x) bs || b) (one_true (assigns x) os)
 
-  pub other_assigns : (s : VStmt) (bs cs : List Branch) (os us : List VStmt) (p r : Bool) → s ≡ If bs os → cs ≡ bs → us ≡ os → p ≡ list_any (branch_assigns x) cs → p ≡ false → r ≡ list_any (assigns x) us → r ≡ assigns x s
-  other_assigns s bs cs os us p r is c u h k e =
-      e ∙ ap (list_any (assigns x)) u
-      ∙ sym (ways s bs os is ∙ ap (λ (b : Bool). b || list_any (assigns x) os) (ap (list_any (branch_assigns x)) (sym c) ∙ sym h ∙ k))
-
-  pub one_branch : (s : VStmt) (bs cs : List Branch) (os : List VStmt) (r : Bool) → s ≡ If bs os → cs ≡ bs → r ≡ list_any (branch_assigns x) cs → r ≡ true → r ≡ assigns x s
-  one_branch s bs cs os r is c h k =
-      k ∙ sym (ways s bs os is ∙ ap (λ (b : Bool). b || list_any (assigns x) os) (ap (list_any (branch_assigns x)) (sym c) ∙ sym h ∙ k))
-
-  pub in_branch : (b : Branch) (ss : List VStmt) (r : Bool) → ss ≡ b.body → r ≡ list_any (assigns x) ss → r ≡ branch_assigns x b
-  in_branch b ss r u e = e ∙ ap (list_any (assigns x)) u ∙ sym (branch_assigns-Branch x b ∙ one_true (assigns x) b.body)
+  pub branch_ways : (b : Branch) → branch_assigns x b ≡ list_any (assigns x) b.body
+  branch_ways b = branch_assigns-Branch x b ∙ one_true (assigns x) b.body

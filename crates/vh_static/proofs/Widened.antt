@@ -7,7 +7,7 @@ use Rattle.vh_tree.specs.declared.function.Var.{Var}
 use Rattle.vh_tree.specs.declared.design.Design.{Design}
 use Rattle.std.proofs.lemmas.List.{take_min, take-map}
 use Rattle.vh_tree.specs.declared.function.Function.{Function}
-use Rattle.vh_static.specs.Tables.{known_in, put}
+use Rattle.vh_static.specs.Tables.{Known, known_in, put}
 use Rattle.vh_static.specs.declared.widths.Callee.{Callee}
 use Rattle.vh_static.specs.Measures.{capped, known_by, shape_at, widths_over}
 
@@ -62,5 +62,5 @@ pub first_widths : (n : ℕ) (vars : List Var) → map (λ (v : Var). v.width) (
 first_widths n vars = ap (map (λ (v : Var). v.width)) (take_min n vars) ∙ sym (take-map (λ (v : Var). v.width) n vars)
 
 -- the widths of ports and signals, and of the functions, are those of the processes
-pub around : (vars : List Var) (callees : List (Bytes × Callee)) (d : Design) → vars ≡ process_vars d → known_by callees ≡ shapes_of d.items → widths_over vars callees ≡ widths_in_process d
-around vars callees d v k = λ i. record { named = width_among (v i); known = k i }
+pub around : (vars : Known ℕ) (callees : List (Bytes × Callee)) (d : Design) → vars ≡ width_among (process_vars d) → known_by callees ≡ shapes_of d.items → widths_over vars callees ≡ widths_in_process d
+around vars callees d v k = λ i. record { named = v i; known = k i }

@@ -10,7 +10,7 @@ use Rattle.vh_tree.specs.declared.function.Function.{Function}
 use Rattle.vh_tree.specs.declared.design.Item.{Item}
 use Rattle.vh_tree.specs.declared.expr.VExpr.{VExpr}
 use Rattle.vh_tree.specs.declared.stmt.Test.{Test}
-use Rattle.vh_static.specs.Tables.{known_in}
+use Rattle.vh_static.specs.Tables.{Known, known_in}
 use Rattle.vh_static.specs.declared.widths.Callee.{Callee}
 use Rattle.vh_static.specs.declared.widths.Misfit.{Misfit}
 
@@ -23,8 +23,8 @@ abbrev pub known_by : List (Bytes × Callee) → Bytes → Option Shape
 known_by callees x = option_map shape_at (known_in callees x)
 
 -- over these variables, and the functions of a table
-abbrev pub widths_over : List Var → List (Bytes × Callee) → Widths
-widths_over vars callees = record { named = width_among vars; known = known_by callees }
+abbrev pub widths_over : Known ℕ → List (Bytes × Callee) → Widths
+widths_over vars callees = record { named = vars; known = known_by callees }
 
 -- a width is found exactly where widths agree
 abbrev pub Measures : Result (Option ℕ) Misfit → Measured → Type 0
@@ -42,11 +42,11 @@ capped None = None
 capped (Some n) = Some (min n (2 ^ 64 - 1))
 
 -- the two sides of an assignment agree
-abbrev pub assigns_fit : List Var → List (Bytes × Callee) → Bytes → VExpr → Bool
-assigns_fit vars callees x e = fits_in (widths_over vars callees) (width_among vars x) e
+abbrev pub assigns_fit : Known ℕ → List (Bytes × Callee) → Bytes → VExpr → Bool
+assigns_fit vars callees x e = fits_in (widths_over vars callees) (vars x) e
 
 -- and those of a test
-abbrev pub tests_fit : List Var → List (Bytes × Callee) → Test → Bool
+abbrev pub tests_fit : Known ℕ → List (Bytes × Callee) → Test → Bool
 tests_fit vars callees = test_keeps (λ e bits. fits_in (widths_over vars callees) (Some (length bits)) e) true
 
 -- the parameters and variables of a function
@@ -54,11 +54,11 @@ abbrev pub function_vars : Function → List Var
 function_vars f = parameter_vars f.params f.vars ++ f.vars
 
 -- a function's variables have widths that may be declared, and widths agree in its statements
-abbrev pub body_keeps : List Var → List (Bytes × Callee) → Function → Bool
+abbrev pub body_keeps : Known ℕ → List (Bytes × Callee) → Function → Bool
 body_keeps vars callees f = list_all (λ v. is_width v.width) f.vars && list_all (stmt_fits (widths_over vars callees)) f.body
 
 -- what a function over these variables is to those behind it, exactly where its widths agree
-abbrev pub CalleeOver : List Var → List (Bytes × Callee) → Function → Option Callee → Type 0
+abbrev pub CalleeOver : Known ℕ → List (Bytes × Callee) → Function → Option Callee → Type 0
 CalleeOver vars callees f None = (body_keeps vars callees f && (measured (widths_over vars callees) f.result).fits) ≡ false
 CalleeOver vars callees f (Some callee) =
     ((body_keeps vars callees f && (measured (widths_over vars callees) f.result).fits) ≡ true)
@@ -66,7 +66,7 @@ CalleeOver vars callees f (Some callee) =
 
 -- and over its own variables
 abbrev pub CalleeOf : List (Bytes × Callee) → Function → Option Callee → Type 0
-CalleeOf callees f = CalleeOver (function_vars f) callees f
+CalleeOf callees f = CalleeOver (width_among (function_vars f)) callees f
 
 -- widths agree in these items, and then the functions known behind them are those
 abbrev pub ItemsFit : Bool → (Bytes → Option Shape) → (Bytes → Option Shape) → List Item → Type 0

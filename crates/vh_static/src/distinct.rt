@@ -1,15 +1,16 @@
 // Whether names are distinct.
 ghost use Rattle.std.specs.Prelude.{◌≡◌, ◌++◌, IfOk, OnOk, map};
 ghost use Rattle.vh_tree.specs.StaticRules.{are_distinct, item_names, names_of};
+ghost use Rattle.vh_static.specs.Named.{IsSet};
 
 use crate::table::Table;
 use rw_base::OutOfMemory;
 use std::alloc::Global;
 use vh_tree::{Ident, Item, Var};
 
-// Whether no two of these names are the same.
-pub fn distinct(alloc: Global, names: &[Ident]) -> Result<bool, OutOfMemory>
-    ensures { IfOk result (λ b. b ≡ are_distinct names.now) }
+// These names, if no two are the same.
+pub fn as_set(alloc: Global, names: &[Ident]) -> Result<Option<Table<()>>, OutOfMemory>
+    ensures { IfOk result (λ o. IsSet o names.now) }
 {
     let mut seen = Table::new(alloc);
     let mut at = names.len();
@@ -17,11 +18,18 @@ pub fn distinct(alloc: Global, names: &[Ident]) -> Result<bool, OutOfMemory>
         at -= 1;
         let name = &names[at];
         if seen.has(name) {
-            return Ok(false);
+            return Ok(None);
         }
         seen.put(alloc, name.as_slice(), ())?;
     }
-    Ok(true)
+    Ok(Some(seen))
+}
+
+// Whether no two of these names are the same.
+pub fn distinct(alloc: Global, names: &[Ident]) -> Result<bool, OutOfMemory>
+    ensures { IfOk result (λ b. b ≡ are_distinct names.now) }
+{
+    Ok(as_set(alloc, names)?.is_some())
 }
 
 // Appends the names of these items.

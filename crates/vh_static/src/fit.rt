@@ -5,9 +5,10 @@ ghost use Rattle.vh_tree.specs.Functions.{parameter_widths};
 ghost use Rattle.vh_tree.specs.StaticRules.{agree as agree_with, breaks_widths, declared_signals, function_fits, is_width as is_declared, items_fit, measured, parameter_vars, process_vars, shape_of, shapes_of, stmt_fits, fits_in, names_of, widths_in_process};
 ghost use Rattle.vh_static.specs.Rules.{branch_keeps};
 ghost use Rattle.vh_static.specs.Measures.{CalleeOf, CalleeOver, CalleesOf, ItemsFit, assigns_fit, body_keeps, function_vars, known_by, tests_fit, widths_over};
+ghost use Rattle.vh_static.specs.Tables.{known_in};
 
 use crate::VFail;
-use crate::lookup::width;
+use crate::lookup::width_table;
 use crate::table::Table;
 use crate::vars::{add_signals, again, port};
 use crate::widths::{Callee, agree, measure};
@@ -37,8 +38,8 @@ fn vars_fit(vars: &[Var]) -> bool
 }
 
 // Whether widths in an expression agree, and its width with this one.
-fn expr_fits(vars: &[Var], callees: &Table<Callee>, whole: Option<u64>, expr: &VExpr) -> bool
-    ensures { result ≡ fits_in (widths_over vars.now callees.now) whole expr.now }
+fn expr_fits(vars: &Table<u32>, callees: &Table<Callee>, whole: Option<u64>, expr: &VExpr) -> bool
+    ensures { result ≡ fits_in (widths_over (known_in vars.now) callees.now) whole expr.now }
 {
     match measure(vars, callees, expr) {
         Ok(width) => agree(whole, width),
@@ -46,17 +47,22 @@ fn expr_fits(vars: &[Var], callees: &Table<Callee>, whole: Option<u64>, expr: &V
     }
 }
 
-fn assignment_fits(vars: &[Var], callees: &Table<Callee>, target: &Ident, value: &VExpr) -> bool
-    ensures { result ≡ assigns_fit vars.now callees.now target.now value.now }
+fn assignment_fits(
+    vars: &Table<u32>,
+    callees: &Table<Callee>,
+    target: &Ident,
+    value: &VExpr,
+) -> bool
+    ensures { result ≡ assigns_fit (known_in vars.now) callees.now target.now value.now }
 {
-    match width(vars, target) {
-        Some(width) => expr_fits(vars, callees, Some(width as u64), value),
+    match vars.get(target) {
+        Some(width) => expr_fits(vars, callees, Some(*width as u64), value),
         None => expr_fits(vars, callees, None, value),
     }
 }
 
-fn test_fits(vars: &[Var], callees: &Table<Callee>, test: &Test) -> bool
-    ensures { result ≡ tests_fit vars.now callees.now test.now }
+fn test_fits(vars: &Table<u32>, callees: &Table<Callee>, test: &Test) -> bool
+    ensures { result ≡ tests_fit (known_in vars.now) callees.now test.now }
 {
     match test {
         Test::Equal(left, bits) => {
@@ -67,8 +73,8 @@ fn test_fits(vars: &[Var], callees: &Table<Callee>, test: &Test) -> bool
     }
 }
 
-fn all_tests_fit(vars: &[Var], callees: &Table<Callee>, tests: &[Test]) -> bool
-    ensures { result ≡ list_all (tests_fit vars.now callees.now) tests.now }
+fn all_tests_fit(vars: &Table<u32>, callees: &Table<Callee>, tests: &[Test]) -> bool
+    ensures { result ≡ list_all (tests_fit (known_in vars.now) callees.now) tests.now }
 {
     for test in tests {
         if !test_fits(vars, callees, test) {
@@ -80,8 +86,8 @@ fn all_tests_fit(vars: &[Var], callees: &Table<Callee>, tests: &[Test]) -> bool
 
 // Whether the widths in a statement agree.
 #[cycle(statements)]
-fn one_fits(vars: &[Var], callees: &Table<Callee>, stmt: &VStmt) -> bool
-    ensures { result ≡ stmt_fits (widths_over vars.now callees.now) stmt.now }
+fn one_fits(vars: &Table<u32>, callees: &Table<Callee>, stmt: &VStmt) -> bool
+    ensures { result ≡ stmt_fits (widths_over (known_in vars.now) callees.now) stmt.now }
 {
     match stmt {
         VStmt::Assign(target, value) => assignment_fits(vars, callees, target, value),
@@ -93,8 +99,8 @@ fn one_fits(vars: &[Var], callees: &Table<Callee>, stmt: &VStmt) -> bool
 }
 
 #[cycle(statements)]
-fn stmts_fit(vars: &[Var], callees: &Table<Callee>, stmts: &[VStmt]) -> bool
-    ensures { result ≡ list_all (stmt_fits (widths_over vars.now callees.now)) stmts.now }
+fn stmts_fit(vars: &Table<u32>, callees: &Table<Callee>, stmts: &[VStmt]) -> bool
+    ensures { result ≡ list_all (stmt_fits (widths_over (known_in vars.now) callees.now)) stmts.now }
 {
     for stmt in stmts {
         if !one_fits(vars, callees, stmt) {
@@ -105,16 +111,16 @@ fn stmts_fit(vars: &[Var], callees: &Table<Callee>, stmts: &[VStmt]) -> bool
 }
 
 #[cycle(statements)]
-fn branch_fits(vars: &[Var], callees: &Table<Callee>, branch: &Branch) -> bool
-    ensures { result ≡ branch_keeps (assigns_fit vars.now callees.now) (tests_fit vars.now callees.now) branch.now }
+fn branch_fits(vars: &Table<u32>, callees: &Table<Callee>, branch: &Branch) -> bool
+    ensures { result ≡ branch_keeps (assigns_fit (known_in vars.now) callees.now) (tests_fit (known_in vars.now) callees.now) branch.now }
 {
     all_tests_fit(vars, callees, branch.tests.as_slice())
         && stmts_fit(vars, callees, branch.body.as_slice())
 }
 
 #[cycle(statements)]
-fn branches_fit(vars: &[Var], callees: &Table<Callee>, branches: &[Branch]) -> bool
-    ensures { result ≡ list_all (branch_keeps (assigns_fit vars.now callees.now) (tests_fit vars.now callees.now)) branches.now }
+fn branches_fit(vars: &Table<u32>, callees: &Table<Callee>, branches: &[Branch]) -> bool
+    ensures { result ≡ list_all (branch_keeps (assigns_fit (known_in vars.now) callees.now) (tests_fit (known_in vars.now) callees.now)) branches.now }
 {
     for branch in branches {
         if !branch_fits(vars, callees, branch) {
@@ -187,8 +193,8 @@ fn param_widths(alloc: Global, function: &Function) -> Result<Items<u32>, OutOfM
 }
 
 // Whether the widths of a function's variables may be declared, and those in its statements agree.
-fn body_fits(vars: &[Var], callees: &Table<Callee>, function: &Function) -> bool
-    ensures { result ≡ body_keeps vars.now callees.now function.now }
+fn body_fits(vars: &Table<u32>, callees: &Table<Callee>, function: &Function) -> bool
+    ensures { result ≡ body_keeps (known_in vars.now) callees.now function.now }
 {
     vars_fit(function.vars.as_slice()) && stmts_fit(vars, callees, function.body.as_slice())
 }
@@ -196,11 +202,11 @@ fn body_fits(vars: &[Var], callees: &Table<Callee>, function: &Function) -> bool
 // What a function over these variables is to those behind it, if its widths agree.
 fn callee_over(
     alloc: Global,
-    vars: &[Var],
+    vars: &Table<u32>,
     callees: &Table<Callee>,
     function: &Function,
 ) -> Result<Option<Callee>, OutOfMemory>
-    ensures { IfOk result (CalleeOver vars.now callees.now function.now) }
+    ensures { IfOk result (CalleeOver (known_in vars.now) callees.now function.now) }
 {
     if !body_fits(vars, callees, function) {
         return Ok(None);
@@ -222,7 +228,7 @@ fn callee(
 ) -> Result<Option<Callee>, OutOfMemory>
     ensures { IfOk result (CalleeOf callees.now function.now) }
 {
-    let vars = vars_in(alloc, function)?;
+    let vars = width_table(alloc, &vars_in(alloc, function)?)?;
     callee_over(alloc, &vars, callees, function)
 }
 
@@ -264,8 +270,8 @@ fn ports_and_signals(alloc: Global, design: &Design) -> Result<Vec<Var>, OutOfMe
     Ok(vars)
 }
 
-fn processes_fit(vars: &[Var], callees: &Table<Callee>, processes: &[Process]) -> bool
-    ensures { result ≡ list_all (λ p. list_all (stmt_fits (widths_over vars.now callees.now)) p.body) processes.now }
+fn processes_fit(vars: &Table<u32>, callees: &Table<Callee>, processes: &[Process]) -> bool
+    ensures { result ≡ list_all (λ p. list_all (stmt_fits (widths_over (known_in vars.now) callees.now)) p.body) processes.now }
 {
     for process in processes {
         if !stmts_fit(vars, callees, process.body.as_slice()) {
@@ -295,7 +301,7 @@ fn processes_keep(
     requires { known_by callees.now ≡ shapes_of design.now.items }
     ensures { IfOk result (λ b. b ≡ list_all (λ p. list_all (stmt_fits (widths_in_process design.now)) p.body) design.now.processes) }
 {
-    let vars = ports_and_signals(alloc, design)?;
+    let vars = width_table(alloc, &ports_and_signals(alloc, design)?)?;
     Ok(processes_fit(&vars, callees, design.processes.as_slice()))
 }
 

@@ -39,10 +39,10 @@ pub fn check_static(alloc: Global, design: &Design) -> Result<(), VFail>
     if !fit::widths_keep(alloc, design)? {
         return Err(VFail::Refused(VRule::V5));
     }
-    if !drivers::drivers_keep(design) {
+    if !drivers::drivers_keep(alloc, design)? {
         return Err(VFail::Refused(VRule::V6));
     }
-    if !order::order_keeps(design) {
+    if !order::order_keeps(alloc, design)? {
         return Err(VFail::Refused(VRule::V7));
     }
     if !ports::ports_keep(design) {

@@ -1,9 +1,13 @@
-// Looks names up in lists of variables and items.
-ghost use Rattle.std.specs.Prelude.{◌≡◌, ◌∷◌, map, option_copied};
-ghost use Rattle.vh_tree.specs.Bits.{is_among, same_name};
-ghost use Rattle.vh_tree.specs.StaticRules.{arity_in, functions_of, names_of, width_among};
-ghost use Rattle.vh_static.specs.Rules.{usable_before};
+// What the names of items and variables have, in tables.
+ghost use Rattle.std.specs.Prelude.{◌≡◌, IfOk, OnOk};
+ghost use Rattle.vh_tree.specs.Bits.{Bytes, same_name};
+ghost use Rattle.vh_tree.specs.StaticRules.{arity_in, functions_of, width_among};
+ghost use Rattle.vh_static.specs.Rules.{and_arity};
+ghost use Rattle.vh_static.specs.Tables.{known_in};
 
+use crate::table::Table;
+use rw_base::OutOfMemory;
+use std::alloc::Global;
 use vh_tree::{Ident, Item, Var};
 
 // Whether two names are the same.
@@ -13,66 +17,42 @@ pub fn same(a: &Ident, b: &Ident) -> bool
     a.as_slice() == b.as_slice()
 }
 
-// Whether a name is one of these.
-pub fn is_one_of(name: &Ident, names: &[Ident]) -> bool
-    ensures { result ≡ is_among name.now names.now }
+// The widths of these variables by their names. The first of a name counts, so they are put in from the last one back.
+pub fn width_table(alloc: Global, vars: &[Var]) -> Result<Table<u32>, OutOfMemory>
+    ensures { IfOk result (λ t. known_in t ≡ width_among vars.now) }
 {
-    for other in names {
-        if same(name, other) {
-            return true;
-        }
+    let mut widths = Table::new(alloc);
+    let mut at = vars.len();
+    while at > 0 {
+        at -= 1;
+        let var = &vars[at];
+        widths.put(alloc, var.name.as_slice(), var.width)?;
     }
-    false
+    Ok(widths)
 }
 
-// Whether a name is that of one of these variables.
-pub fn is_var(name: &Ident, vars: &[Var]) -> bool
-    ensures { result ≡ is_among name.now (names_of vars.now) }
+// Puts in how many parameters an item has, if it is a function.
+fn put_arity(alloc: Global, arities: &mut Table<usize>, item: &Item) -> Result<(), OutOfMemory>
+    ensures { OnOk result ((x : Bytes) → known_in arities.new x ≡ and_arity item.now (known_in arities.old) x) }
 {
-    for var in vars {
-        if same(name, &var.name) {
-            return true;
+    match item {
+        Item::Signal(_) => Ok(()),
+        Item::Function(function) => {
+            let count = function.params.as_slice().len();
+            arities.put(alloc, function.name.as_slice(), count)
         }
     }
-    false
 }
 
-// The width of the variable of this name.
-pub fn width(vars: &[Var], name: &Ident) -> Option<u32>
-    ensures { result ≡ width_among vars.now name.now }
+// How many parameters each function of these items has, by its name. The first of a name counts here too.
+pub fn arity_table(alloc: Global, items: &[Item]) -> Result<Table<usize>, OutOfMemory>
+    ensures { IfOk result (λ t. known_in t ≡ arity_in (functions_of items.now)) }
 {
-    for var in vars {
-        if same(&var.name, name) {
-            return Some(var.width);
-        }
+    let mut arities = Table::new(alloc);
+    let mut at = items.len();
+    while at > 0 {
+        at -= 1;
+        put_arity(alloc, &mut arities, &items[at])?;
     }
-    None
-}
-
-// How many parameters the function of this name has.
-pub fn arity(items: &[Item], name: &Ident) -> Option<usize>
-    ensures { result ≡ arity_in (functions_of items.now) name.now }
-{
-    for item in items {
-        if let Item::Function(function) = item {
-            if same(&function.name, name) {
-                return Some(function.params.as_slice().len());
-            }
-        }
-    }
-    None
-}
-
-// Whether no function of these items has this name.
-pub fn is_usable_before(later: &[Item], name: &Ident) -> bool
-    ensures { result ≡ usable_before later.now name.now }
-{
-    for item in later {
-        if let Item::Function(function) = item {
-            if same(name, &function.name) {
-                return false;
-            }
-        }
-    }
-    true
+    Ok(arities)
 }

@@ -1,31 +1,35 @@
 // V7: a function is used behind its declaration alone.
-ghost use Rattle.std.specs.Prelude.{◌≡◌, ◌≤◌, not, map, drop, length};
+ghost use Rattle.std.specs.Prelude.{◌≡◌, IfOk, OnOk, not, map};
 ghost use Rattle.std.specs.List.{list_all};
+ghost use Rattle.vh_tree.specs.Bits.{Bytes};
 ghost use Rattle.vh_tree.specs.StaticRules.{all_true, all_use_earlier, breaks_order, function_uses_earlier, functions_of, stmt_uses_earlier, uses_earlier};
-ghost use Rattle.vh_static.specs.Rules.{branch_keeps, tests_early, usable_before};
+ghost use Rattle.vh_static.specs.Rules.{before_item, branch_keeps, item_uses_earlier, tests_early, usable_before};
+ghost use Rattle.vh_static.specs.Tables.{known_in};
 
-use crate::lookup::is_usable_before;
+use crate::table::Table;
+use rw_base::OutOfMemory;
+use std::alloc::Global;
 use vh_tree::{Branch, Design, Function, Item, Test, VExpr, VStmt};
 
 // Whether an expression uses no function of these items.
 #[cycle(expr)]
-fn expr_is_early(later: &[Item], expr: &VExpr) -> bool
-    ensures { result ≡ uses_earlier (usable_before later.now) expr.now }
+fn expr_is_early(later: &Table<()>, expr: &VExpr) -> bool
+    ensures { result ≡ uses_earlier (usable_before (known_in later.now)) expr.now }
 {
     match expr {
-        VExpr::Name(name) => is_usable_before(later, name),
+        VExpr::Name(name) => !later.has(name),
         VExpr::Slice(_, _, _) => true,
         VExpr::Literal(_) => true,
         VExpr::Call(name, arguments) => {
-            is_usable_before(later, name) && all_are_early(later, arguments.as_slice())
+            !later.has(name) && all_are_early(later, arguments.as_slice())
         }
         VExpr::Join(parts) => all_are_early(later, parts.as_slice()),
     }
 }
 
 #[cycle(expr)]
-fn all_are_early(later: &[Item], parts: &[VExpr]) -> bool
-    ensures { result ≡ all_true (map (uses_earlier (usable_before later.now)) parts.now) }
+fn all_are_early(later: &Table<()>, parts: &[VExpr]) -> bool
+    ensures { result ≡ all_true (map (uses_earlier (usable_before (known_in later.now))) parts.now) }
 {
     for part in parts {
         if !expr_is_early(later, part) {
@@ -35,8 +39,8 @@ fn all_are_early(later: &[Item], parts: &[VExpr]) -> bool
     true
 }
 
-fn test_is_early(later: &[Item], test: &Test) -> bool
-    ensures { result ≡ tests_early later.now test.now }
+fn test_is_early(later: &Table<()>, test: &Test) -> bool
+    ensures { result ≡ tests_early (known_in later.now) test.now }
 {
     match test {
         Test::Equal(left, _) => expr_is_early(later, left),
@@ -45,8 +49,8 @@ fn test_is_early(later: &[Item], test: &Test) -> bool
     }
 }
 
-fn tests_are_early(later: &[Item], tests: &[Test]) -> bool
-    ensures { result ≡ list_all (tests_early later.now) tests.now }
+fn tests_are_early(later: &Table<()>, tests: &[Test]) -> bool
+    ensures { result ≡ list_all (tests_early (known_in later.now)) tests.now }
 {
     for test in tests {
         if !test_is_early(later, test) {
@@ -58,8 +62,8 @@ fn tests_are_early(later: &[Item], tests: &[Test]) -> bool
 
 // Whether a statement uses no function of these items.
 #[cycle(statements)]
-fn stmt_is_early(later: &[Item], stmt: &VStmt) -> bool
-    ensures { result ≡ stmt_uses_earlier (usable_before later.now) stmt.now }
+fn stmt_is_early(later: &Table<()>, stmt: &VStmt) -> bool
+    ensures { result ≡ stmt_uses_earlier (usable_before (known_in later.now)) stmt.now }
 {
     match stmt {
         VStmt::Assign(_, value) => expr_is_early(later, value),
@@ -71,8 +75,8 @@ fn stmt_is_early(later: &[Item], stmt: &VStmt) -> bool
 }
 
 #[cycle(statements)]
-fn stmts_are_early(later: &[Item], stmts: &[VStmt]) -> bool
-    ensures { result ≡ list_all (stmt_uses_earlier (usable_before later.now)) stmts.now }
+fn stmts_are_early(later: &Table<()>, stmts: &[VStmt]) -> bool
+    ensures { result ≡ list_all (stmt_uses_earlier (usable_before (known_in later.now))) stmts.now }
 {
     for stmt in stmts {
         if !stmt_is_early(later, stmt) {
@@ -83,16 +87,16 @@ fn stmts_are_early(later: &[Item], stmts: &[VStmt]) -> bool
 }
 
 #[cycle(statements)]
-fn branch_is_early(later: &[Item], branch: &Branch) -> bool
-    ensures { result ≡ branch_keeps (λ x e. uses_earlier (usable_before later.now) e) (tests_early later.now) branch.now }
+fn branch_is_early(later: &Table<()>, branch: &Branch) -> bool
+    ensures { result ≡ branch_keeps (λ x e. uses_earlier (usable_before (known_in later.now)) e) (tests_early (known_in later.now)) branch.now }
 {
     tests_are_early(later, branch.tests.as_slice())
         && stmts_are_early(later, branch.body.as_slice())
 }
 
 #[cycle(statements)]
-fn branches_are_early(later: &[Item], branches: &[Branch]) -> bool
-    ensures { result ≡ list_all (branch_keeps (λ x e. uses_earlier (usable_before later.now) e) (tests_early later.now)) branches.now }
+fn branches_are_early(later: &Table<()>, branches: &[Branch]) -> bool
+    ensures { result ≡ list_all (branch_keeps (λ x e. uses_earlier (usable_before (known_in later.now)) e) (tests_early (known_in later.now))) branches.now }
 {
     for branch in branches {
         if !branch_is_early(later, branch) {
@@ -102,41 +106,44 @@ fn branches_are_early(later: &[Item], branches: &[Branch]) -> bool
     true
 }
 
-fn function_is_early(later: &[Item], function: &Function) -> bool
-    ensures { result ≡ function_uses_earlier (usable_before later.now) function.now }
+fn function_is_early(later: &Table<()>, function: &Function) -> bool
+    ensures { result ≡ function_uses_earlier (usable_before (known_in later.now)) function.now }
 {
     stmts_are_early(later, function.body.as_slice()) && expr_is_early(later, &function.result)
 }
 
-// The items from this place on.
-fn from_place(items: &[Item], at: usize) -> &[Item]
-    requires { at ≤ length items.now }
-    ensures { result.now ≡ drop at items.now }
+// Whether an item, if it is a function, uses none of those behind it, nor itself; it is then one of them.
+fn item_is_early(alloc: Global, later: &mut Table<()>, item: &Item) -> Result<bool, OutOfMemory>
+    ensures early { IfOk result (λ b. b ≡ item_uses_earlier (known_in later.new) item.now) }
+    ensures later { OnOk result ((x : Bytes) → known_in later.new x ≡ before_item item.now (known_in later.old) x) }
 {
-    &items[at..]
+    match item {
+        Item::Signal(_) => Ok(true),
+        Item::Function(function) => {
+            later.put(alloc, function.name.as_slice(), ())?;
+            Ok(function_is_early(later, function))
+        }
+    }
 }
 
 // Whether each function of these items uses none of those from it on.
-fn items_are_early(items: &[Item]) -> bool
-    ensures { result ≡ all_use_earlier (functions_of items.now) }
+fn items_are_early(alloc: Global, items: &[Item]) -> Result<bool, OutOfMemory>
+    ensures { IfOk result (λ b. b ≡ all_use_earlier (functions_of items.now)) }
 {
-    for (at, item) in items.iter().enumerate() {
-        match item {
-            Item::Signal(_) => (),
-            Item::Function(function) => {
-                let later = from_place(items, at);
-                if !function_is_early(later, function) {
-                    return false;
-                }
-            }
+    let mut later = Table::new(alloc);
+    let mut at = items.len();
+    while at > 0 {
+        at -= 1;
+        if !item_is_early(alloc, &mut later, &items[at])? {
+            return Ok(false);
         }
     }
-    true
+    Ok(true)
 }
 
 // Whether the design keeps V7.
-pub fn order_keeps(design: &Design) -> bool
-    ensures { not result ≡ breaks_order design.now }
+pub fn order_keeps(alloc: Global, design: &Design) -> Result<bool, OutOfMemory>
+    ensures { IfOk result (λ b. not b ≡ breaks_order design.now) }
 {
-    items_are_early(design.items.as_slice())
+    items_are_early(alloc, design.items.as_slice())
 }

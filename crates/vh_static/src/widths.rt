@@ -4,11 +4,11 @@ ghost use Rattle.std.specs.List.{list_all};
 ghost use Rattle.vh_tree.specs.StaticRules.{Width, all_agree, joined_width, measured, sum_widths, width_of_name};
 ghost use Rattle.vh_tree.specs.StaticRules as rules;
 ghost use Rattle.vh_static.specs.Measures.{Fits, Measures, capped, widths_over};
+ghost use Rattle.vh_static.specs.Tables.{known_in};
 
-use crate::lookup::width;
 use crate::table::Table;
 use sqlite_items::Items;
-use vh_tree::{Ident, VExpr, Var};
+use vh_tree::{Ident, VExpr};
 
 const MAX_WIDTH: u64 = 1 << 30;
 
@@ -26,11 +26,11 @@ pub enum Misfit {
 }
 
 // The width of a name that stands alone.
-fn name_width(vars: &[Var], callees: &Table<Callee>, name: &Ident) -> Option<u64>
-    ensures { let ws = widths_over vars.now callees.now in result ≡ width_of_name (ws.named name.now) (ws.known name.now) }
+fn name_width(vars: &Table<u32>, callees: &Table<Callee>, name: &Ident) -> Option<u64>
+    ensures { let ws = widths_over (known_in vars.now) callees.now in result ≡ width_of_name (ws.named name.now) (ws.known name.now) }
 {
-    if let Some(width) = width(vars, name) {
-        return Some(width as u64);
+    if let Some(width) = vars.get(name) {
+        return Some(*width as u64);
     }
     callees.get(name)?.result
 }
@@ -96,12 +96,16 @@ fn behind(width: Option<u64>, params: &[u32]) -> Result<&[u32], Misfit>
 
 // The width of an expression in which widths agree.
 #[cycle(expr)]
-pub fn measure(vars: &[Var], callees: &Table<Callee>, expr: &VExpr) -> Result<Option<u64>, Misfit>
-    ensures { Measures result (measured (widths_over vars.now callees.now) expr.now) }
+pub fn measure(
+    vars: &Table<u32>,
+    callees: &Table<Callee>,
+    expr: &VExpr,
+) -> Result<Option<u64>, Misfit>
+    ensures { Measures result (measured (widths_over (known_in vars.now) callees.now) expr.now) }
 {
     match expr {
         VExpr::Name(name) => Ok(name_width(vars, callees, name)),
-        VExpr::Slice(name, high, low) => slice_width(width(vars, name), *high, *low),
+        VExpr::Slice(name, high, low) => slice_width(vars.get(name).copied(), *high, *low),
         VExpr::Literal(bits) => Ok(Some(bits.as_slice().len() as u64)),
         VExpr::Call(name, arguments) => match callees.get(name) {
             Some(callee) => {
@@ -121,12 +125,12 @@ pub fn measure(vars: &[Var], callees: &Table<Callee>, expr: &VExpr) -> Result<Op
 // Arguments agree with parameters of these widths, as far as both go.
 #[cycle(expr)]
 fn arguments_fit(
-    vars: &[Var],
+    vars: &Table<u32>,
     callees: &Table<Callee>,
     params: &[u32],
     arguments: &[VExpr],
 ) -> Result<(), Misfit>
-    ensures { let ms = map (measured (widths_over vars.now callees.now)) arguments.now in
+    ensures { let ms = map (measured (widths_over (known_in vars.now) callees.now)) arguments.now in
         Fits result (list_all (λ m. m.fits) ms && all_agree (map (λ m. m.width) ms) params.now) }
 {
     let mut left = params;
@@ -138,8 +142,8 @@ fn arguments_fit(
 
 // Widths agree in each of these expressions.
 #[cycle(expr)]
-fn each_fits(vars: &[Var], callees: &Table<Callee>, parts: &[VExpr]) -> Result<(), Misfit>
-    ensures { Fits result (list_all (λ m. m.fits) (map (measured (widths_over vars.now callees.now)) parts.now)) }
+fn each_fits(vars: &Table<u32>, callees: &Table<Callee>, parts: &[VExpr]) -> Result<(), Misfit>
+    ensures { Fits result (list_all (λ m. m.fits) (map (measured (widths_over (known_in vars.now) callees.now)) parts.now)) }
 {
     for part in parts {
         measure(vars, callees, part)?;
@@ -150,11 +154,11 @@ fn each_fits(vars: &[Var], callees: &Table<Callee>, parts: &[VExpr]) -> Result<(
 // The sum of the widths of these parts, at most the greatest number.
 #[cycle(expr)]
 fn parts_width(
-    vars: &[Var],
+    vars: &Table<u32>,
     callees: &Table<Callee>,
     parts: &[VExpr],
 ) -> Result<Option<u64>, Misfit>
-    ensures { let ms = map (measured (widths_over vars.now callees.now)) parts.now in
+    ensures { let ms = map (measured (widths_over (known_in vars.now) callees.now)) parts.now in
         Measures result (record { width = capped (joined_width (map (λ m. m.width) ms)); fits = list_all (λ m. m.fits) ms }) }
 {
     let mut total = Some(0);

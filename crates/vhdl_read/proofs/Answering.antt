@@ -7,8 +7,8 @@ use Rattle.vh_tree.specs.Text.{all_allowed, IsText}
 use Rattle.vh_tree.specs.Spelling.{IsSpelled, SpellsDesign, BreaksBytes, BreaksTokens, BreaksGrammar}
 use Rattle.vh_tree.specs.Scan.{scanned}
 use Rattle.vh_tree.specs.ReadDesign.{design_of}
-use Rattle.vhdl_read.specs.declared.fail.ReadFail.{ReadFail}
-use Rattle.vhdl_read.specs.declared.fail.ReadFail.TheVariants as fail
+use Rattle.vh_static.specs.declared.fail.VFail.{VFail}
+use Rattle.vh_static.specs.declared.fail.VFail.TheVariants as fail
 use Rattle.vhdl_read.specs.Reading.{IsAnswer, IsUnlessMemory}
 
 -- bytes are not both allowed and not
@@ -44,7 +44,7 @@ design_found law read bytes ts design h e n = record { allowed = h; tokens = ts;
 -- ---- to what a clause says of the answer
 
 pub answer_spelled : ((bytes : List ℕ) (a b : Design) → IsSpelled bytes a → IsSpelled bytes b → a ≡ b) → TokensAreScanned
-    → (bytes : List ℕ) (r : Result Design ReadFail) → IsAnswer bytes r → (design : Design) → IsSpelled bytes design → IsUnlessMemory (Ok design) r
+    → (bytes : List ℕ) (r : Result Design VFail) → IsAnswer bytes r → (design : Design) → IsSpelled bytes design → IsUnlessMemory (Ok design) r
 answer_spelled one law bytes (Ok d) a design s = inl (ap Ok (one bytes d design a s))
 answer_spelled one law bytes (Err fail.OutOfMemory) a design s = inr refl
 answer_spelled one law bytes (Err (fail.Refused v.V1)) a design s = absurd (not_both bytes s.allowed a)
@@ -57,7 +57,7 @@ answer_spelled one law bytes (Err (fail.Refused v.V6)) a design s = absurd a
 answer_spelled one law bytes (Err (fail.Refused v.V7)) a design s = absurd a
 answer_spelled one law bytes (Err (fail.Refused v.V8)) a design s = absurd a
 
-pub answer_bytes : (bytes : List ℕ) (r : Result Design ReadFail) → IsAnswer bytes r → BreaksBytes bytes → r ≡ Err (fail.Refused v.V1)
+pub answer_bytes : (bytes : List ℕ) (r : Result Design VFail) → IsAnswer bytes r → BreaksBytes bytes → r ≡ Err (fail.Refused v.V1)
 answer_bytes bytes (Ok d) a b = absurd (not_both bytes a.allowed b)
 answer_bytes bytes (Err fail.OutOfMemory) a b = absurd (not_both bytes a b)
 answer_bytes bytes (Err (fail.Refused v.V1)) a b = refl
@@ -69,7 +69,7 @@ answer_bytes bytes (Err (fail.Refused v.V6)) a b = absurd a
 answer_bytes bytes (Err (fail.Refused v.V7)) a b = absurd a
 answer_bytes bytes (Err (fail.Refused v.V8)) a b = absurd a
 
-pub answer_tokens : (bytes : List ℕ) (r : Result Design ReadFail) → IsAnswer bytes r → BreaksTokens bytes → IsUnlessMemory (Err (fail.Refused v.V2)) r
+pub answer_tokens : (bytes : List ℕ) (r : Result Design VFail) → IsAnswer bytes r → BreaksTokens bytes → IsUnlessMemory (Err (fail.Refused v.V2)) r
 answer_tokens bytes (Ok d) a b = absurd (b.no_tokens a.tokens a.text)
 answer_tokens bytes (Err fail.OutOfMemory) a b = inr refl
 answer_tokens bytes (Err (fail.Refused v.V1)) a b = absurd (not_both bytes b.allowed a)
@@ -81,7 +81,7 @@ answer_tokens bytes (Err (fail.Refused v.V6)) a b = absurd a
 answer_tokens bytes (Err (fail.Refused v.V7)) a b = absurd a
 answer_tokens bytes (Err (fail.Refused v.V8)) a b = absurd a
 
-pub answer_grammar : TokensAreScanned → (bytes : List ℕ) (r : Result Design ReadFail) → IsAnswer bytes r → BreaksGrammar bytes → IsUnlessMemory (Err (fail.Refused v.V3)) r
+pub answer_grammar : TokensAreScanned → (bytes : List ℕ) (r : Result Design VFail) → IsAnswer bytes r → BreaksGrammar bytes → IsUnlessMemory (Err (fail.Refused v.V3)) r
 answer_grammar law bytes (Ok d) a b = absurd (b.no_design d (subst (λ z. SpellsDesign z d) (one_text law bytes a.tokens b.tokens a.text b.text) a.tree))
 answer_grammar law bytes (Err fail.OutOfMemory) a b = inr refl
 answer_grammar law bytes (Err (fail.Refused v.V1)) a b = absurd (not_both bytes b.allowed a)

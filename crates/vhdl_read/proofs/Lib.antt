@@ -2,4 +2,6 @@
 pub mod Runs
 pub mod Scanning
 pub mod Turns
+pub mod Words
 pub mod Answering
+pub mod Judging

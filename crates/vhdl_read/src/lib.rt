@@ -1,29 +1,30 @@
 //! Reads texts of the VHDL subset: from the bytes of a text to the one design that it spells, or to the first of the
-//! rules V1 to V3 that it breaks.
+//! rules V1 to V8 that it breaks.
 //!
-//! It leaves the definitions, and all laws about them, to `vh_tree`, and the static rules of designs to others.
-//! Whoever simulates or checks a text from outside begins here. Begin with `read.rt`, then `scan.rt`; the grammar
-//! rule stands above each reader.
+//! It leaves the definitions, and all laws about them, to `vh_tree`, and judging the static rules V4 to V8 to
+//! `vh_static`. Whoever simulates or checks a text from outside begins here. Begin with `judged.rt`, then `spelled.rt`
+//! and `scan.rt`; the grammar rule stands above each reader.
 #![tactic(auto)]
 
 mod class;
 mod declare;
 mod design;
 mod expr;
-mod fail;
 mod item;
+mod judged;
 mod process;
-mod read;
 mod scan;
+mod spelled;
 mod stmt;
 mod token;
 mod unread;
 mod word;
 
-pub use fail::ReadFail;
-pub use read::read_spelled;
+pub use judged::read;
 pub use scan::tokens_of;
+pub use spelled::read_spelled;
 pub use unread::Unread;
+pub use vh_static::VFail;
 
 #[cfg(test)]
 mod tests;

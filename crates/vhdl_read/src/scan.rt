@@ -75,7 +75,7 @@ fn symbol(b: u8, rest: &[u8]) -> Result<(Mark, &[u8]), Unread>
     if b == b'\'' && (first_is(rest, b'1') && first_is(past(rest), b'\'')) {
         return Ok((Mark::High, past(past(rest))));
     }
-    match single(&[b]) {
+    match single(b) {
         Some(mark) => Ok((mark, rest)),
         None => Err(Unread::NotSpelled),
     }
@@ -95,8 +95,7 @@ fn front(alloc: Global, text: &[u8]) -> Result<(Option<Token>, &[u8]), Unread>
     }
     if b.is_ascii_alphabetic() {
         let (word, behind) = split(Class::Word, text);
-        let word = word.to_ascii_lowercase(alloc)?;
-        return Ok((Some(word_token(alloc, &word)?), behind));
+        return Ok((Some(word_token(alloc, word)?), behind));
     }
     if is_white(*b) {
         return Ok((None, rest));

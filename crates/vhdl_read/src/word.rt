@@ -1,112 +1,80 @@
 // Words, numbers and symbols (IEEE Std 1076-1993, sections 13.3, 13.4 and 13.9).
-ghost use Rattle.std.specs.Prelude.{◌≡◌};
+ghost use Rattle.std.specs.Prelude.{◌≡◌, [], ◌∷◌, map};
 ghost use Rattle.std.specs.List.{list_any};
-ghost use Rattle.std.specs.Char.{is_ascii_digit as digit};
+ghost use Rattle.std.specs.Char.{is_ascii_digit as digit, is_ascii_uppercase, to_ascii_lowercase};
 ghost use Rattle.vh_tree.specs.Text as text;
 ghost use Rattle.vh_tree.specs.Scan as spec;
 ghost use Rattle.vhdl_read.specs.Given.{Gives};
+ghost use Rattle.vhdl_read.specs.Kinds.{words_from};
 
 use crate::Unread;
 use crate::class::first_is;
 use std::alloc::Global;
 use vh_tree::{Ident, Mark, Token};
 
-// The word of the grammar that these bytes spell.
-fn word_mark(word: &[u8]) -> Option<Mark>
-    ensures { result ≡ spec.mark_in spec.words word.now }
+// The first of these marks that the bytes spell.
+fn mark_among(marks: &[Mark], bytes: &[u8]) -> Option<Mark>
+    ensures { result ≡ spec.mark_in marks.now bytes.now }
 {
-    if word == b"all".as_slice() {
-        Some(Mark::All)
-    } else if word == b"and".as_slice() {
-        Some(Mark::And)
-    } else if word == b"architecture".as_slice() {
-        Some(Mark::Architecture)
-    } else if word == b"begin".as_slice() {
-        Some(Mark::Begin)
-    } else if word == b"behaviour".as_slice() {
-        Some(Mark::Behaviour)
-    } else if word == b"clk".as_slice() {
-        Some(Mark::Clk)
-    } else if word == b"downto".as_slice() {
-        Some(Mark::Downto)
-    } else if word == b"else".as_slice() {
-        Some(Mark::Else)
-    } else if word == b"elsif".as_slice() {
-        Some(Mark::Elsif)
-    } else if word == b"end".as_slice() {
-        Some(Mark::End)
-    } else if word == b"entity".as_slice() {
-        Some(Mark::Entity)
-    } else if word == b"function".as_slice() {
-        Some(Mark::Function)
-    } else if word == b"ieee".as_slice() {
-        Some(Mark::Ieee)
-    } else if word == b"if".as_slice() {
-        Some(Mark::If)
-    } else if word == b"in".as_slice() {
-        Some(Mark::In)
-    } else if word == b"inp".as_slice() {
-        Some(Mark::Inp)
-    } else if word == b"is".as_slice() {
-        Some(Mark::Is)
-    } else if word == b"library".as_slice() {
-        Some(Mark::Library)
-    } else if word == b"of".as_slice() {
-        Some(Mark::Of)
-    } else if word == b"out".as_slice() {
-        Some(Mark::Out)
-    } else if word == b"outp".as_slice() {
-        Some(Mark::Outp)
-    } else if word == b"port".as_slice() {
-        Some(Mark::Port)
-    } else if word == b"process".as_slice() {
-        Some(Mark::Process)
-    } else if word == b"return".as_slice() {
-        Some(Mark::Return)
-    } else if word == b"rewire".as_slice() {
-        Some(Mark::Rewire)
-    } else if word == b"rising_edge".as_slice() {
-        Some(Mark::RisingEdge)
-    } else if word == b"rst".as_slice() {
-        Some(Mark::Rst)
-    } else if word == b"signal".as_slice() {
-        Some(Mark::Signal)
-    } else if word == b"std_logic".as_slice() {
-        Some(Mark::StdLogic)
-    } else if word == b"std_logic_vector".as_slice() {
-        Some(Mark::StdLogicVector)
-    } else if word == b"then".as_slice() {
-        Some(Mark::Then)
-    } else if word == b"use".as_slice() {
-        Some(Mark::Use)
-    } else if word == b"variable".as_slice() {
-        Some(Mark::Variable)
-    } else {
-        None
+    for mark in marks {
+        if bytes == mark.text() {
+            return Some(*mark);
+        }
+    }
+    None
+}
+
+// The word of the grammar that these bytes spell, which begin with this letter.
+fn word_from(letter: u8, word: &[u8]) -> Option<Mark>
+    ensures { result ≡ spec.mark_in (words_from letter) word.now }
+{
+    match letter {
+        b'a' => mark_among(&[Mark::All, Mark::And, Mark::Architecture], word),
+        b'b' => mark_among(&[Mark::Begin, Mark::Behaviour], word),
+        b'c' => mark_among(&[Mark::Clk], word),
+        b'd' => mark_among(&[Mark::Downto], word),
+        b'e' => mark_among(&[Mark::Else, Mark::Elsif, Mark::End, Mark::Entity], word),
+        b'f' => mark_among(&[Mark::Function], word),
+        b'i' => mark_among(&[Mark::Ieee, Mark::If, Mark::In, Mark::Inp, Mark::Is], word),
+        b'l' => mark_among(&[Mark::Library], word),
+        b'o' => mark_among(&[Mark::Of, Mark::Out, Mark::Outp], word),
+        b'p' => mark_among(&[Mark::Port, Mark::Process], word),
+        b'r' => mark_among(
+            &[Mark::Return, Mark::Rewire, Mark::RisingEdge, Mark::Rst],
+            word,
+        ),
+        b's' => mark_among(&[Mark::Signal, Mark::StdLogic, Mark::StdLogicVector], word),
+        b't' => mark_among(&[Mark::Then], word),
+        b'u' => mark_among(&[Mark::Use], word),
+        b'v' => mark_among(&[Mark::Variable], word),
+        _ => None,
     }
 }
 
-pub fn single(symbol: &[u8]) -> Option<Mark>
-    ensures { result ≡ spec.mark_in spec.singles symbol.now }
+// The word of the grammar that these bytes spell. Only those with the same first letter are looked at.
+fn word_mark(word: &[u8]) -> Option<Mark>
+    ensures { result ≡ spec.mark_in spec.words word.now }
 {
-    if symbol == b"(".as_slice() {
-        Some(Mark::Opens)
-    } else if symbol == b")".as_slice() {
-        Some(Mark::Closes)
-    } else if symbol == b",".as_slice() {
-        Some(Mark::Comma)
-    } else if symbol == b";".as_slice() {
-        Some(Mark::Semicolon)
-    } else if symbol == b":".as_slice() {
-        Some(Mark::Colon)
-    } else if symbol == b".".as_slice() {
-        Some(Mark::Dot)
-    } else if symbol == b"&".as_slice() {
-        Some(Mark::Amp)
-    } else if symbol == b"=".as_slice() {
-        Some(Mark::Equal)
-    } else {
-        None
+    match word {
+        [] => None,
+        [letter, ..] => word_from(*letter, word),
+    }
+}
+
+// The symbol of one byte.
+pub fn single(symbol: u8) -> Option<Mark>
+    ensures { result ≡ spec.mark_in spec.singles (symbol ∷ []) }
+{
+    match symbol {
+        b'(' => Some(Mark::Opens),
+        b')' => Some(Mark::Closes),
+        b',' => Some(Mark::Comma),
+        b';' => Some(Mark::Semicolon),
+        b':' => Some(Mark::Colon),
+        b'.' => Some(Mark::Dot),
+        b'&' => Some(Mark::Amp),
+        b'=' => Some(Mark::Equal),
+        _ => None,
     }
 }
 
@@ -114,6 +82,12 @@ fn has_digit(word: &[u8]) -> bool
     ensures { result ≡ list_any digit word.now }
 {
     word.iter().any(|b| b.is_ascii_digit())
+}
+
+fn has_capital(word: &[u8]) -> bool
+    ensures { result ≡ list_any is_ascii_uppercase word.now }
+{
+    word.iter().any(|b| b.is_ascii_uppercase())
 }
 
 fn ends_single(word: &[u8]) -> bool
@@ -144,7 +118,7 @@ fn single_underscores(word: &[u8]) -> bool
 
 // A word in lower case, as a token.
 #[tactic(auto, unfolding(vh_tree::specs::Scan::word_token))]
-pub fn word_token(alloc: Global, word: &[u8]) -> Result<Token, Unread>
+fn low_word(alloc: Global, word: &[u8]) -> Result<Token, Unread>
     ensures { Gives (λ x. x) result (spec.word_token word.now) }
 {
     if word == b"std_logic_1164".as_slice() {
@@ -160,6 +134,17 @@ pub fn word_token(alloc: Global, word: &[u8]) -> Result<Token, Unread>
         Some(mark) => Ok(Token::Mark(mark)),
         None => Err(Unread::NotSpelled),
     }
+}
+
+// A word, as a token. Its case does not matter, and only one with a capital letter is copied for that.
+pub fn word_token(alloc: Global, word: &[u8]) -> Result<Token, Unread>
+    ensures { Gives (λ x. x) result (spec.word_token (map to_ascii_lowercase word.now)) }
+{
+    if has_capital(word) {
+        let low = word.to_ascii_lowercase(alloc)?;
+        return low_word(alloc, &low);
+    }
+    low_word(alloc, word)
 }
 
 // The value of digits, if it is at most 2,147,483,647.

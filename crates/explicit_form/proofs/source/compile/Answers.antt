@@ -10,7 +10,7 @@ compiled : (source text : List ℕ) (m : Machine) (d : Design) → IsMachineOfSo
 compiled source text m d f made printed = (f.0, f.1, printed ∙ ap canonical_text (made ∙ ap machine_design f.2))
 
 pub returns-clause-compiled : goal.returns-clause-compiled
-returns-clause-compiled c = compiled _ _ _ _ c.in_ok-machine.ensures.found c.in_ok-design.ensures c.in_ok-print.ensures
+returns-clause-compiled c = compiled _ _ _ _ c.in_ok-machine.ensures.found c.in_ok-design.ensures c.in_ok-print.ensures.bytes
 
 pub returns-clause-right : goal.returns-clause-right
-returns-clause-right c = c.compiled_law.ensures _ _ (compiled _ _ _ _ c.in_ok-machine.ensures.found c.in_ok-design.ensures c.in_ok-print.ensures)
+returns-clause-right c = c.compiled_law.ensures _ _ (compiled _ _ _ _ c.in_ok-machine.ensures.found c.in_ok-design.ensures c.in_ok-print.ensures.bytes)

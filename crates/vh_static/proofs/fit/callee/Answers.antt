@@ -1,8 +1,10 @@
 -- The variables of the function.
-use Rattle.std.proofs.Common.{IfOk, List, subst, ◌∙◌}
-use Rattle.vh_tree.specs.declared.function.Var.{Var}
+use Rattle.std.proofs.Common.{ℕ, IfOk, subst, ap, ◌∙◌}
+use Rattle.vh_tree.specs.StaticRules.{width_among}
 use Rattle.vh_static.specs.Measures.{CalleeOver}
+use Rattle.vh_static.specs.Tables.{Known}
 use Rattle.vh_static.proofs.fit.callee.Goals as goal
 
 pub returns : goal.returns
-returns c = subst (λ (vs : List Var). IfOk c.callee_over.result (CalleeOver vs c.args.callees.now c.args.function.now)) (c.deref.ensures.value ∙ c.in_ok-vars.ensures) c.callee_over.ensures
+returns c =
+    subst (λ (vars : Known ℕ). IfOk c.callee_over.result (CalleeOver vars c.args.callees.now c.args.function.now)) (c.in_ok-vars.ensures ∙ ap width_among (c.deref.ensures.value ∙ c.in_ok-vars_in.ensures)) c.callee_over.ensures

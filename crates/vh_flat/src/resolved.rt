@@ -1,0 +1,46 @@
+use rw_base::Bit9;
+use sqlite_items::{Boxed, Items};
+use std::rc::Rc;
+
+/// An expression over a frame: a part of it, or what is made of parts.
+#[cycle(parts)]
+#[derive(Drop)]
+pub enum Expr {
+    Part(u32, u32),
+    Slice(u32, u32, u32, u32),
+    Cut(Boxed<Expr>, u32, u32),
+    Literal(Items<Bit9>),
+    Call(Rc<Fun>, Items<Expr>),
+    Join(Items<Expr>),
+}
+
+#[cycle(parts)]
+#[derive(Drop)]
+pub struct Test {
+    pub left: Expr,
+    pub bits: Items<Bit9>,
+}
+
+#[cycle(parts)]
+#[derive(Drop)]
+pub enum Stmt {
+    Assign(u32, Expr),
+    If(Items<Branch>, Items<Stmt>),
+}
+
+#[cycle(parts)]
+#[derive(Drop)]
+pub struct Branch {
+    pub tests: Items<Test>,
+    pub body: Items<Stmt>,
+}
+
+/// A function: where its frame begins in the store, and how long it is.
+#[cycle(parts)]
+#[derive(Drop)]
+pub struct Fun {
+    pub from: u32,
+    pub size: u32,
+    pub body: Items<Stmt>,
+    pub result: Expr,
+}

@@ -1,0 +1,4 @@
+pub mod Framed
+pub mod Laid
+pub mod Over
+pub mod Tables

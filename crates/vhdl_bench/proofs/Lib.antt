@@ -1,0 +1,4 @@
+mod Benching
+mod Clocking
+mod Deciding
+mod Inputs

@@ -1,0 +1,36 @@
+-- What settling over the buffers of a simulator says of its design.
+use Rattle.std.proofs.Common.{◌≡◌, ℕ, sym, subst, Some, None, codes}
+use Rattle.vh_tree.specs.DeltaCycle.{Orders, AreOrders}
+use Rattle.vh_tree.specs.Bench.{settled, text_schedule}
+use Rattle.vh_tree.specs.Laws.{TextOrderLaw}
+use Rattle.vh_tree.specs.declared.design.Design.{Design}
+use Rattle.vh_flat.specs.Cycles.{Reaches, IsSettling}
+use Rattle.vh_flat.specs.Resolving.{IsResolved}
+use Rattle.vh_flat.specs.Standing.{FitsDesign}
+use Rattle.vh_standing.specs.Changes.{CyclesLaw, SettlingLaw}
+use Rattle.vhdl_cycle.specs.declared.sim.Sim.{Sim}
+use Rattle.vhdl_cycle.specs.Buffers.{IsSameMachine}
+use Rattle.vhdl_cycle.specs.Simulating.{StandsAt, Simulates, flat_of, state_of, most_cycles}
+
+-- after any number of delta cycles the simulator runs the same design
+pub runs_on : CyclesLaw → TextOrderLaw → (sim new : Sim) → IsSameMachine sim new → Reaches sim.resolved.processes sim.resolved.store (flat_of sim) (flat_of new) →
+    (d : Design) → Simulates d sim → Simulates d new
+runs_on law text sim new same (k, reached) d runs = record {
+  static = runs.static;
+  resolved = subst (IsResolved d) same.resolved runs.resolved;
+  fits = subst (FitsDesign d) (sym reached) ((law d runs.static sim.resolved runs.resolved (flat_of sim) runs.fits (text_schedule d 0) (text d 0) k).0);
+  inp = subst (λ at. StandsAt d (codes "inp") at) same.inp runs.inp;
+  outp = subst (λ at. StandsAt d (codes "outp") at) same.outp runs.outp;
+}
+
+module _ (law : SettlingLaw) (sim new : Sim) where
+  -- an answer of settling over the buffers is that of settling
+  pub settles_at : (count : ℕ) → IsSettling sim.resolved.processes sim.resolved.store 64 (flat_of sim) (flat_of new) (Some count) →
+      (d : Design) → Simulates d sim → (orders : Orders) → AreOrders d orders → settled d orders most_cycles (state_of d sim) ≡ Some (record { state = state_of d new; count = count })
+  unfolding most_cycles
+  settles_at count settling d runs orders are = law d runs.static sim.resolved runs.resolved (flat_of sim) runs.fits orders are 64 (flat_of new) (Some count) settling
+
+  pub settles_never : IsSettling sim.resolved.processes sim.resolved.store 64 (flat_of sim) (flat_of new) None →
+      (d : Design) → Simulates d sim → (orders : Orders) → AreOrders d orders → settled d orders most_cycles (state_of d sim) ≡ None
+  unfolding most_cycles
+  settles_never settling d runs orders are = law d runs.static sim.resolved runs.resolved (flat_of sim) runs.fits orders are 64 (flat_of new) None settling
