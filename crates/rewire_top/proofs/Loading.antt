@@ -4,7 +4,7 @@ use Rattle.rw_base.specs.Outside.{Files, IfTold, Loads}
 use Rattle.vhdl_bench.specs.Showing.{IsSimulated, IsUnlessMemory}
 use Rattle.vhdl_bench.specs.declared.fail.BenchFail.{BenchFail}
 use Rattle.vhdl_bench.specs.declared.fail.BenchFail.TheVariants as bench
-use Rattle.rewire_top.specs.Commands.{Command, Sim}
+use Rattle.rewire_top.specs.Commands.{Sim}
 use Rattle.rewire_top.specs.Answers.{most_of_vhdl, most_of_trace, Simulates, Prints, status_of}
 use Rattle.rewire_top.specs.declared.status.Status.{Status}
 use Rattle.rewire_top.specs.declared.status.Status.TheVariants as status

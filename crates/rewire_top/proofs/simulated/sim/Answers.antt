@@ -1,7 +1,5 @@
-use Rattle.std.proofs.Common.{rules, ◌≡◌, List, ℕ, Some, Ok, Err, ◌⊎◌, subst, sym, ap, ◌∙◌, inl, inr}
-use Rattle.rw_base.specs.Outside.{Files, IfTold, Loads, Told, Appended, AppendedPrefix}
-use Rattle.vhdl_bench.specs.Showing.{IsSimulated, IsUnlessMemory}
-use Rattle.rewire_top.specs.Commands.{Sim}
+use Rattle.std.proofs.Common.{rules, ◌≡◌, List, ℕ, Err, ◌⊎◌, subst, sym, ◌∙◌}
+use Rattle.rw_base.specs.Outside.{IfTold, Loads, Told, Appended, AppendedPrefix}
 use Rattle.rewire_top.specs.Answers.{most_of_vhdl, most_of_trace, status_of}
 use Rattle.rewire_top.specs.declared.status.Status.TheVariants as status
 use Rattle.rewire_top.proofs.Loading as l

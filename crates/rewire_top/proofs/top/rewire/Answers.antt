@@ -2,7 +2,6 @@ use Rattle.std.proofs.Common.{◌≡◌, ◌⊎◌, inl, inr, ◌∙◌}
 use Rattle.rewire_top.specs.Answers.{status_of}
 use Rattle.rewire_top.specs.declared.status.Status.{Status}
 use Rattle.rewire_top.specs.declared.status.Status.TheVariants as status
-use Rattle.vhdl_bench.specs.declared.fail.BenchFail.{BenchFail}
 use Rattle.rewire_top.proofs.top.rewire.Goals as goal
 
 -- the line changes a status to want of memory at most
