@@ -1,3 +1,4 @@
+-- What flat bits mean, and what ties them to the design.
 pub mod Flat
 pub mod Delta
 pub mod Cycles

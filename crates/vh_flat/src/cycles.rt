@@ -1,3 +1,4 @@
+// Delta cycles over flat buffers, one after another until nothing is pending.
 ghost use Rattle.std.specs.Prelude.{◌≡◌, ◌≤◌, ◌+◌, ℕ, List, length, vec_len, vec_capacity, replicate, Bool, true, false, not, ◌&&◌};
 ghost use Rattle.std.specs.List.{list_any};
 ghost use Rattle.vh_tree.specs.DeltaCycle.{rises as rises_of};

@@ -1,3 +1,4 @@
+// The processes of one delta cycle over flat buffers.
 ghost use Rattle.std.specs.Prelude.{◌≡◌, ◌≤◌, ◌+◌, length, vec_len, vec_capacity, map, slice_set, Bool};
 ghost use Rattle.vh_flat.specs.Flat.{expr_of, written};
 ghost use Rattle.vh_flat.specs.Delta.{check_of, room_check, all_hold, room_checks, raised, in_order, room_in_order, drive_of, has_event, ran, room_ran};

@@ -1,3 +1,4 @@
+// Parts of flat buffers: read, compared, copied and put.
 ghost use Rattle.std.specs.Prelude.{◌≡◌, ◌≤◌, ◌+◌, ◌++◌, length, vec_len, vec_capacity, replicate, take, drop};
 ghost use Rattle.vh_tree.specs.Bits.{same_bits, slice_of};
 ghost use Rattle.vh_flat.specs.Flat.{part_of, written, entered};

@@ -1,3 +1,4 @@
+// Expressions, statements and functions with places in place of names.
 use rw_base::Bit9;
 use sqlite_items::{Boxed, Items};
 use std::rc::Rc;

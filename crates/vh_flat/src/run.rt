@@ -1,3 +1,4 @@
+// Values of expressions, and functions that run, over flat buffers.
 ghost use Rattle.std.specs.Prelude.{◌≡◌, ℕ, ◌≤◌, IfSome, ◌+◌, ◌++◌, length, vec_len, vec_capacity, map, take, drop};
 ghost use Rattle.vh_flat.specs.Flat.{expr_of, stmt_of, branch_of, fun_of, test_of, joined, room_joined, written, in_order, room_in_order};
 ghost use Rattle.vh_flat.specs.Flat.{room_tests, all_hold as all_of, called, room_called};
