@@ -13,6 +13,7 @@ mod expr;
 mod function;
 mod layout;
 mod process;
+mod room;
 mod sized;
 mod stmt;
 mod table;

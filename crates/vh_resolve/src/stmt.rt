@@ -10,6 +10,7 @@ ghost use Rattle.vh_flat.specs.Names.{function_world_over};
 ghost use Rattle.vh_resolve.specs.Over.{slots_in, frames_in, Agree};
 
 use crate::expr::resolve_expr;
+use crate::room::with_room;
 use crate::sized::Known;
 use crate::table::Table;
 use rw_base::{Bit9, OutOfMemory};
@@ -66,7 +67,7 @@ fn resolve_tests(
     ensures room { IfOk result (λ rs. (n : ℕ) (frame : Bits) → room_tests (map test_of rs) n frame ≤ room.new) }
     ensures raised { room.old ≤ room.new }
 {
-    let mut out = Items::new(alloc);
+    let mut out = with_room(alloc, tests.len())?;
     for test in tests {
         let r = resolve_test(alloc, test, slots, funs, room)?;
         out.push(r)?;
@@ -102,7 +103,7 @@ pub fn resolve_stmts(
     ensures room { IfOk result (λ rs. (n : ℕ) (frame : Bits) → room_in_order (map stmt_of rs) n frame ≤ room.new) }
     ensures raised { room.old ≤ room.new }
 {
-    let mut out = Items::new(alloc);
+    let mut out = with_room(alloc, body.len())?;
     for stmt in body {
         let r = resolve_stmt(alloc, stmt, slots, funs, room)?;
         out.push(r)?;
@@ -151,7 +152,7 @@ fn resolve_branches(
     ensures room { IfOk result (λ rs. (n : ℕ) (frame : Bits) → room_first (map branch_of rs) [] n frame ≤ room.new) }
     ensures raised { room.old ≤ room.new }
 {
-    let mut out = Items::new(alloc);
+    let mut out = with_room(alloc, branches.len())?;
     for branch in branches {
         let r = resolve_branch(alloc, branch, slots, funs, room)?;
         out.push(r)?;
