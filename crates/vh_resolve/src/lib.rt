@@ -8,6 +8,7 @@
 ghost use Rattle.std.specs.Prelude.{IfOk};
 ghost use Rattle.vh_flat.specs.Resolving.{IsResolved};
 
+mod choice;
 mod drive;
 mod expr;
 mod function;

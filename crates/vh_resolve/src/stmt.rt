@@ -9,6 +9,7 @@ ghost use Rattle.vh_flat.specs.Flat.{test_of, stmt_of, branch_of, all_hold, in_o
 ghost use Rattle.vh_flat.specs.Names.{function_world_over};
 ghost use Rattle.vh_resolve.specs.Over.{slots_in, frames_in, Agree};
 
+use crate::choice::choice;
 use crate::expr::resolve_expr;
 use crate::room::with_room;
 use crate::sized::Known;
@@ -81,13 +82,6 @@ fn nothing(alloc: Global) -> Stmt
     ensures room { (n : ℕ) (frame : Bits) → (stmt_of result).room n frame ≡ 0 }
 {
     Stmt::If(Items::new(alloc), Items::new(alloc))
-}
-
-fn choice(rows: Items<Branch>, last: Items<Stmt>) -> Stmt
-    ensures after { (n : ℕ) (frame : Bits) → (stmt_of result).after n frame ≡ first_taken (map branch_of rows) (map stmt_of last) n frame }
-    ensures room { (n : ℕ) (frame : Bits) → (stmt_of result).room n frame ≡ room_first (map branch_of rows) (map stmt_of last) n frame }
-{
-    Stmt::If(rows, last)
 }
 
 // Puts places in place of the names of statements.
