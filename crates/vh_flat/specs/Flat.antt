@@ -7,7 +7,8 @@ use Rattle.vh_flat.specs.declared.resolved.Stmt.{Stmt}
 use Rattle.vh_flat.specs.declared.resolved.Branch.{Branch}
 use Rattle.vh_flat.specs.declared.resolved.Fun.{Fun}
 use Rattle.vh_flat.specs.declared.resolved.Test.{Test}
-use Rattle.vh_flat.specs.declared.resolved.Expr.TheOpen.{Expr-F, Part, Slice, Cut, Literal, Call, Join, Test-F, Stmt-F, Assign, If, Branch-F, Fun-F}
+use Rattle.vh_flat.specs.declared.resolved.Bit.{Bit}
+use Rattle.vh_flat.specs.declared.resolved.Expr.TheOpen.{Expr-F, Part, Slice, Cut, Literal, Call, Join, Test-F, Stmt-F, Assign, If, When, Branch-F, Fun-F}
 use Rattle.vh_flat.specs.declared.resolved.Expr.TheFolds.{fold-Expr, fold-Stmt, fold-Branch, fold-Test, fold-Fun}
 
 -- the value of an expression over a frame, where the store for functions has this length, and the room that it takes on the way
@@ -36,6 +37,10 @@ pub record Frame : Type 0 where
 
 abbrev pub part_of : ℕ → ℕ → Bits → Bits
 part_of from len frame = take len (drop from frame)
+
+-- whether a bit of a part has this value
+abbrev pub has_bit : Bit → Bits → Bool
+has_bit b frame = same_bits (slice_of b.place b.place (part_of b.from b.len frame)) (b.value ∷ [])
 
 -- these bits, written from there on, as far as they fit
 abbrev pub written : ℕ → Bits → Bits → Bits
@@ -104,6 +109,10 @@ room_first (b ∷ bs) other n frame = max (room_tests b.tests n frame) (max (roo
 abbrev pub stmt_step : Stmt-F Value Effect Taken Frame Holds → Effect
 stmt_step (Assign from e) = record { after = λ n frame. written from (e.value n frame) frame; room = e.room }
 stmt_step (If branches other) = record { after = first_taken branches other; room = room_first branches other }
+stmt_step (When b body other) = record {
+  after = λ n frame. if has_bit b frame then in_order body n frame else in_order other n frame;
+  room = λ n frame. max (room_in_order body n frame) (room_in_order other n frame);
+}
 
 abbrev pub branch_step : Branch-F Value Effect Taken Frame Holds → Taken
 branch_step b = record { tests = b.tests; body = b.body }

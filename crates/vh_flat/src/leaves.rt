@@ -1,9 +1,10 @@
 // Parts of flat buffers: read, compared, copied and put.
 ghost use Rattle.std.specs.Prelude.{◌≡◌, ◌≤◌, ◌+◌, ◌++◌, length, vec_len, vec_capacity, replicate, take, drop};
 ghost use Rattle.vh_tree.specs.Bits.{same_bits, slice_of};
-ghost use Rattle.vh_flat.specs.Flat.{part_of, written, entered};
+ghost use Rattle.vh_flat.specs.Flat.{part_of, written, entered, has_bit};
 ghost use Rattle.rw_base.specs.declared.bit.Bit9.TheVariants.{U};
 
+use crate::Bit;
 use rw_base::Bit9;
 
 pub fn part(frame: &[Bit9], from: u32, len: u32) -> &[Bit9]
@@ -28,6 +29,13 @@ pub fn equal(a: &[Bit9], b: &[Bit9]) -> bool
         ([x], [y]) => x == y,
         _ => a == b,
     }
+}
+
+pub fn bit_holds(bit: Bit, frame: &[Bit9]) -> bool
+    ensures { result ≡ has_bit bit frame.now }
+{
+    let bits = slice(part(frame, bit.from, bit.len), bit.place, bit.place);
+    equal(bits, &[bit.value])
 }
 
 pub fn put(frame: &mut [Bit9], from: u32, bits: &[Bit9])

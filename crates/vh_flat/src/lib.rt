@@ -16,6 +16,6 @@ mod slot;
 pub use cycles::settle;
 pub use delta::run_processes;
 pub use process::{Check, Drive, Place, Process, Row, World};
-pub use resolved::{Branch, Expr, Fun, Stmt, Test};
+pub use resolved::{Bit, Branch, Expr, Fun, Stmt, Test};
 pub use run::{append_expr, run_all};
 pub use slot::{Resolved, Slot};

@@ -15,6 +15,15 @@ pub enum Expr {
     Join(Items<Expr>),
 }
 
+/// A bit of a part of a frame, counted from the last of the part, and a value that it may have.
+#[derive(Clone, Copy)]
+pub struct Bit {
+    pub from: u32,
+    pub len: u32,
+    pub place: u32,
+    pub value: Bit9,
+}
+
 #[cycle(parts)]
 #[derive(Drop)]
 pub struct Test {
@@ -22,11 +31,13 @@ pub struct Test {
     pub bits: Items<Bit9>,
 }
 
+/// A statement of a function: an assignment, a choice, or a choice by one bit.
 #[cycle(parts)]
 #[derive(Drop)]
 pub enum Stmt {
     Assign(u32, Expr),
     If(Items<Branch>, Items<Stmt>),
+    When(Bit, Items<Stmt>, Items<Stmt>),
 }
 
 #[cycle(parts)]

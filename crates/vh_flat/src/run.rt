@@ -3,7 +3,7 @@ ghost use Rattle.std.specs.Prelude.{◌≡◌, ℕ, ◌≤◌, IfSome, ◌+◌, 
 ghost use Rattle.vh_flat.specs.Flat.{expr_of, stmt_of, branch_of, fun_of, test_of, joined, room_joined, written, in_order, room_in_order};
 ghost use Rattle.vh_flat.specs.Flat.{room_tests, all_hold as all_of, called, room_called};
 
-use crate::leaves::{append, copy, cut, enter, equal, part, put, slice};
+use crate::leaves::{append, bit_holds, copy, cut, enter, equal, part, put, slice};
 use crate::{Expr, Fun, Stmt, Test};
 use rw_base::Bit9;
 
@@ -133,6 +133,13 @@ fn run(stmt: &Stmt, own: &mut [Bit9], lower: &mut [Bit9], out: &mut Vec<Bit9>)
                 }
             }
             run_all(other.as_slice(), own, lower, out);
+        }
+        Stmt::When(bit, body, other) => {
+            if bit_holds(*bit, own) {
+                run_all(body.as_slice(), own, lower, out);
+            } else {
+                run_all(other.as_slice(), own, lower, out);
+            }
         }
     }
 }

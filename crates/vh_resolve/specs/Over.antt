@@ -2,11 +2,13 @@
 use Rattle.std.specs.Prelude.{◌≡◌, ℕ, List, [], ◌∷◌, Option, Some, None}
 use Rattle.vh_tree.specs.Bits.{Bytes, Bits}
 use Rattle.vh_tree.specs.Functions.{World, Choice}
-use Rattle.vh_flat.specs.Flat.{Frame, Taken, fun_of, all_hold, in_order}
+use Rattle.vh_flat.specs.Flat.{Frame, Taken, fun_of, branch_of, has_bit, all_hold, in_order}
 use Rattle.vh_flat.specs.Delta.{Coming}
 use Rattle.vh_flat.specs.Delta.{Taken as Row, all_hold as all_checked, in_order as driven_by}
 use Rattle.vh_flat.specs.declared.process.World.{World as Asked}
 use Rattle.vh_flat.specs.Names.{Slots, Frames}
+use Rattle.vh_flat.specs.declared.resolved.Bit.{Bit}
+use Rattle.vh_flat.specs.declared.resolved.Branch.{Branch}
 use Rattle.vh_flat.specs.declared.slot.Slot.{Slot}
 use Rattle.vh_resolve.specs.Tables.{known_in}
 use Rattle.vh_resolve.specs.declared.sized.Known.{Known}
@@ -37,3 +39,9 @@ RowsAgree v w n now c [] [] = Unit {0}
 RowsAgree v w n now c (b ∷ bs) (m ∷ ms) = (all_checked b.checks w n now ≡ m.0 v c) × (driven_by b.body w n now c ≡ m.1 v c) × RowsAgree v w n now c bs ms
 RowsAgree v w n now c [] (m ∷ ms) = ⊥
 RowsAgree v w n now c (b ∷ bs) [] = ⊥
+
+-- there is one branch, and it is taken exactly where a bit has its value
+pub record IsDecidedBy (bit : Bit) (rows : List Branch) : Type 0 where
+  pub branch : Branch
+  pub alone : rows ≡ branch ∷ []
+  pub decides : (n : ℕ) (frame : Bits) → all_hold (branch_of branch).tests n frame ≡ has_bit bit frame

@@ -11,6 +11,7 @@ ghost use Rattle.vh_flat.specs.declared.process.World.{World as Asked};
 ghost use Rattle.vh_resolve.specs.Over.{slots_in, frames_in, RowsAgree};
 
 use crate::expr::resolve_expr;
+use crate::room::with_room;
 use crate::sized::Known;
 use crate::table::Table;
 use rw_base::OutOfMemory;
@@ -56,7 +57,7 @@ fn resolve_checks(
     ensures room { IfOk result (λ rs. (n : ℕ) (now : Bits) → room_checks rs n now ≤ room.new) }
     ensures raised { room.old ≤ room.new }
 {
-    let mut out = Items::new(alloc);
+    let mut out = with_room(alloc, tests.len())?;
     for test in tests {
         let r = resolve_check(alloc, test, slots, funs, room)?;
         out.push(r)?;
@@ -92,7 +93,7 @@ pub fn resolve_drives(
     ensures room { IfOk result (λ rs. (n : ℕ) (now : Bits) → room_in_order (map drive_of rs) n now ≤ room.new) }
     ensures raised { room.old ≤ room.new }
 {
-    let mut out = Items::new(alloc);
+    let mut out = with_room(alloc, body.len())?;
     for stmt in body {
         let r = resolve_drive(alloc, stmt, slots, funs, room)?;
         out.push(r)?;
@@ -141,7 +142,7 @@ fn resolve_rows(
     ensures room { IfOk result (λ rs. (n : ℕ) (now : Bits) → room_first (map row_of rs) [] n now ≤ room.new) }
     ensures raised { room.old ≤ room.new }
 {
-    let mut out = Items::new(alloc);
+    let mut out = with_room(alloc, branches.len())?;
     for branch in branches {
         let r = resolve_row(alloc, branch, slots, funs, room)?;
         out.push(r)?;

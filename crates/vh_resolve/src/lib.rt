@@ -8,11 +8,13 @@
 ghost use Rattle.std.specs.Prelude.{IfOk};
 ghost use Rattle.vh_flat.specs.Resolving.{IsResolved};
 
+mod choice;
 mod drive;
 mod expr;
 mod function;
 mod layout;
 mod process;
+mod room;
 mod sized;
 mod stmt;
 mod table;

@@ -9,7 +9,9 @@ ghost use Rattle.vh_flat.specs.Flat.{test_of, stmt_of, branch_of, all_hold, in_o
 ghost use Rattle.vh_flat.specs.Names.{function_world_over};
 ghost use Rattle.vh_resolve.specs.Over.{slots_in, frames_in, Agree};
 
+use crate::choice::choice;
 use crate::expr::resolve_expr;
+use crate::room::with_room;
 use crate::sized::Known;
 use crate::table::Table;
 use rw_base::{Bit9, OutOfMemory};
@@ -66,7 +68,7 @@ fn resolve_tests(
     ensures room { IfOk result (λ rs. (n : ℕ) (frame : Bits) → room_tests (map test_of rs) n frame ≤ room.new) }
     ensures raised { room.old ≤ room.new }
 {
-    let mut out = Items::new(alloc);
+    let mut out = with_room(alloc, tests.len())?;
     for test in tests {
         let r = resolve_test(alloc, test, slots, funs, room)?;
         out.push(r)?;
@@ -82,13 +84,6 @@ fn nothing(alloc: Global) -> Stmt
     Stmt::If(Items::new(alloc), Items::new(alloc))
 }
 
-fn choice(rows: Items<Branch>, last: Items<Stmt>) -> Stmt
-    ensures after { (n : ℕ) (frame : Bits) → (stmt_of result).after n frame ≡ first_taken (map branch_of rows) (map stmt_of last) n frame }
-    ensures room { (n : ℕ) (frame : Bits) → (stmt_of result).room n frame ≡ room_first (map branch_of rows) (map stmt_of last) n frame }
-{
-    Stmt::If(rows, last)
-}
-
 // Puts places in place of the names of statements.
 #[cycle(resolve)]
 pub fn resolve_stmts(
@@ -102,7 +97,7 @@ pub fn resolve_stmts(
     ensures room { IfOk result (λ rs. (n : ℕ) (frame : Bits) → room_in_order (map stmt_of rs) n frame ≤ room.new) }
     ensures raised { room.old ≤ room.new }
 {
-    let mut out = Items::new(alloc);
+    let mut out = with_room(alloc, body.len())?;
     for stmt in body {
         let r = resolve_stmt(alloc, stmt, slots, funs, room)?;
         out.push(r)?;
@@ -151,7 +146,7 @@ fn resolve_branches(
     ensures room { IfOk result (λ rs. (n : ℕ) (frame : Bits) → room_first (map branch_of rs) [] n frame ≤ room.new) }
     ensures raised { room.old ≤ room.new }
 {
-    let mut out = Items::new(alloc);
+    let mut out = with_room(alloc, branches.len())?;
     for branch in branches {
         let r = resolve_branch(alloc, branch, slots, funs, room)?;
         out.push(r)?;
