@@ -16,3 +16,6 @@ mod top;
 pub use imports::unknown_modules;
 pub use places::earliest;
 pub use top::repeated_at_top;
+
+#[cfg(test)]
+mod tests;
