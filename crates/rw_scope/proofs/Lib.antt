@@ -1,0 +1,2 @@
+-- What is repeated behind names that were seen.
+pub mod Behind
