@@ -1,0 +1,14 @@
+-- The words that public contracts rest on.
+pub mod Lexemes
+pub mod Lists
+pub mod Types
+pub mod Patterns
+pub mod Names
+pub mod Expressions
+pub mod Clauses
+pub mod Declarations
+pub mod Grammar
+pub mod Chains
+pub mod Resolved
+pub mod Levels
+pub mod Resolution
