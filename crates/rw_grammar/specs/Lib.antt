@@ -12,3 +12,6 @@ pub mod Chains
 pub mod Resolved
 pub mod Levels
 pub mod Resolution
+-- What functions inside promise each other, and laws that callers cite.
+pub mod Read
+pub mod ReadTypes

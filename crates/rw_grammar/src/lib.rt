@@ -7,7 +7,9 @@
 #![tactic(auto)]
 
 mod item;
+mod laws;
 mod lexeme;
 
 pub use item::{Bound, Item};
+pub use laws::{one_type_and_one_pattern, patterns_are_read, types_are_read};
 pub use lexeme::{Lexeme, Mark, Spot};
