@@ -2,3 +2,11 @@
 pub mod ReadExact
 pub mod ReadTypes
 pub mod ReadPatterns
+pub mod ReadNames
+pub mod ReadExpressions
+pub mod ReadChains
+pub mod Plain
+pub mod ReadSides
+pub mod ReadLocals
+pub mod ReadStatements
+pub mod ReadLevels

@@ -152,10 +152,15 @@ abbrev mutual
   IsExpression zero ts exp rest = ⊥
   IsExpression (suc n) ts exp rest =
       let Operand : List Lexeme → Expr Span → List Lexeme → Type 0 =
-      IsOperand (IsExpression n) (IsAlternatives (IsAlternative (IsPattern n) (IsExpression n))) (IsStatements (IsStatement (IsPattern n) (IsExpression n) (IsLocals n))) in
+      IsOperand (IsExpression n) (IsAlternatives (IsAlternative (IsPattern n) (IsExpression n))) (IsStatements (IsStatement (IsPattern n) (IsExpression n) (IsLocalsBelow n))) in
       IsExpressionOver Operand (IsLast (IsPattern n) (IsExpression n) (IsLocals n) Operand) ts exp rest
 
   pub IsLocals : ℕ → List Lexeme → List (Local Span) → List Lexeme → Type 0
   IsLocals zero ts locals rest = ⊥
   IsLocals (suc n) ts locals rest =
       IsLocalsOver (IsLocal (IsBindingPattern (IsPattern n)) (IsType n) (IsClause (IsLeftSide (IsPattern n) (IsApat (IsPattern n))) (IsExpression n) (IsLocals n)) (IsExpression n) (IsLocals n)) ts locals rest
+
+  -- one less: what the `let` of a statement has is what the `let` of an expression in its place would have
+  pub IsLocalsBelow : ℕ → List Lexeme → List (Local Span) → List Lexeme → Type 0
+  IsLocalsBelow zero ts locals rest = ⊥
+  IsLocalsBelow (suc n) ts locals rest = IsLocals n ts locals rest

@@ -15,3 +15,7 @@ pub mod Resolution
 -- What functions inside promise each other, and laws that callers cite.
 pub mod Read
 pub mod ReadTypes
+pub mod ReadNames
+pub mod ReadExpressions
+pub mod ReadClauses
+pub mod ReadLevels

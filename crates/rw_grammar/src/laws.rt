@@ -3,10 +3,17 @@ ghost use Rattle.std.specs.Prelude.{◌≡◌, ℕ, true, List, Some};
 ghost use Rattle.rw_base.specs.declared.place.Span.{Span};
 ghost use Rattle.rw_tree.specs.declared.types.Written.{Written};
 ghost use Rattle.rw_tree.specs.declared.pattern.Pat.{Pat};
+ghost use Rattle.rw_tree.specs.declared.expr.Expr.{Expr};
+ghost use Rattle.rw_tree.specs.declared.clause.Alt.{Alt};
+ghost use Rattle.rw_tree.specs.declared.clause.Local.{Local};
 ghost use Rattle.rw_grammar.specs.declared.lexeme.Lexeme.{Lexeme};
 ghost use Rattle.rw_grammar.specs.Types.{IsType};
-ghost use Rattle.rw_grammar.specs.Patterns.{IsPattern};
+ghost use Rattle.rw_grammar.specs.Patterns.{IsApat, IsPattern};
+ghost use Rattle.rw_grammar.specs.Clauses.{IsLeftSide, IsClause, IsExpression, IsLocals};
 ghost use Rattle.rw_grammar.specs.ReadTypes.{ends_type, ends_pattern, type_at, pattern_at};
+ghost use Rattle.rw_grammar.specs.ReadExpressions.{ends_expression};
+ghost use Rattle.rw_grammar.specs.ReadClauses.{ends_clause};
+ghost use Rattle.rw_grammar.specs.ReadLevels.{clause_over, expression_at, locals_at};
 
 /// Reading from left to right, with one token of lookahead, gives exactly the type that tokens begin with, where what
 /// follows could not go on with it.
@@ -26,4 +33,29 @@ pub fn patterns_are_read()
 pub fn one_type_and_one_pattern()
     ensures types { (n : ℕ) (tokens first second : List Lexeme) (a b : Written) → IsType n tokens a first → ends_type first ≡ true → IsType n tokens b second → ends_type second ≡ true → a ≡ b }
     ensures patterns { (n : ℕ) (tokens first second : List Lexeme) (a b : Pat Span) → IsPattern n tokens a first → ends_pattern first ≡ true → IsPattern n tokens b second → ends_pattern second ≡ true → a ≡ b }
+{}
+
+/// Reading from left to right gives exactly the expression that tokens begin with, where what follows could not go on
+/// with it. Chains of operators are not grouped.
+pub fn expressions_are_read()
+    ensures spelled { (n : ℕ) (tokens rest : List Lexeme) (exp : Expr Span) → expression_at n tokens ≡ Some (exp, rest) → IsExpression n tokens exp rest }
+    ensures read { (n : ℕ) (tokens rest : List Lexeme) (exp : Expr Span) → IsExpression n tokens exp rest → ends_expression rest ≡ true → expression_at n tokens ≡ Some (exp, rest) }
+{}
+
+/// Reading from left to right gives exactly the block of local declarations that tokens begin with.
+pub fn locals_are_read()
+    ensures spelled { (n : ℕ) (tokens rest : List Lexeme) (locals : List (Local Span)) → locals_at n tokens ≡ Some (locals, rest) → IsLocals n tokens locals rest }
+    ensures read { (n : ℕ) (tokens rest : List Lexeme) (locals : List (Local Span)) → IsLocals n tokens locals rest → locals_at n tokens ≡ Some (locals, rest) }
+{}
+
+/// Reading from left to right gives exactly the clause that tokens begin with, where what follows could not go on with it.
+pub fn clauses_are_read()
+    ensures spelled { (n : ℕ) (tokens rest : List Lexeme) (name : List ℕ) (row : Alt Span) → clause_over n (expression_at n) (locals_at n) tokens ≡ Some ((name, row), rest) → IsClause (IsLeftSide (IsPattern n) (IsApat (IsPattern n))) (IsExpression n) (IsLocals n) tokens (name, row) rest }
+    ensures read { (n : ℕ) (tokens rest : List Lexeme) (name : List ℕ) (row : Alt Span) → IsClause (IsLeftSide (IsPattern n) (IsApat (IsPattern n))) (IsExpression n) (IsLocals n) tokens (name, row) rest → ends_clause rest ≡ true → clause_over n (expression_at n) (locals_at n) tokens ≡ Some ((name, row), rest) }
+{}
+
+/// Tokens begin with one expression at most, of those that could not go on, and with one block of local declarations.
+pub fn one_expression_and_one_block()
+    ensures expressions { (n : ℕ) (tokens first second : List Lexeme) (a b : Expr Span) → IsExpression n tokens a first → ends_expression first ≡ true → IsExpression n tokens b second → ends_expression second ≡ true → a ≡ b }
+    ensures blocks { (n : ℕ) (tokens first second : List Lexeme) (a b : List (Local Span)) → IsLocals n tokens a first → IsLocals n tokens b second → a ≡ b }
 {}

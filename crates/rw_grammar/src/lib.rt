@@ -11,5 +11,8 @@ mod laws;
 mod lexeme;
 
 pub use item::{Bound, Item};
-pub use laws::{one_type_and_one_pattern, patterns_are_read, types_are_read};
+pub use laws::{
+    clauses_are_read, expressions_are_read, locals_are_read, one_expression_and_one_block,
+    one_type_and_one_pattern, patterns_are_read, types_are_read,
+};
 pub use lexeme::{Lexeme, Mark, Spot};
