@@ -10,3 +10,4 @@ pub mod ReadSides
 pub mod ReadLocals
 pub mod ReadStatements
 pub mod ReadLevels
+pub mod ReadData

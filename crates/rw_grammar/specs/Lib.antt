@@ -19,3 +19,4 @@ pub mod ReadNames
 pub mod ReadExpressions
 pub mod ReadClauses
 pub mod ReadLevels
+pub mod ReadDeclarations
