@@ -11,3 +11,4 @@ pub mod ReadLocals
 pub mod ReadStatements
 pub mod ReadLevels
 pub mod ReadData
+pub mod ReadImports

@@ -70,10 +70,10 @@ class_complete _ _ _ (a_class_name w name rest) s = refl
 class_shorter : (ts : List Lexeme) (a : List ℕ) (rest : List Lexeme) → IsClassName ts a rest → length rest < length ts
 class_shorter _ _ _ (a_class_name w name rest) = omega arith
 
-class_exact : Exact class_name_at IsClassName always
+pub class_exact : Exact class_name_at IsClassName always
 class_exact = record { sound = class_sound; complete = class_complete; shorter = class_shorter }
 
-class_opens : (ts : List Lexeme) (a : List ℕ) (rest : List Lexeme) → IsClassName ts a rest → sees m.Closes ts ≡ false
+pub class_opens : (ts : List Lexeme) (a : List ℕ) (rest : List Lexeme) → IsClassName ts a rest → sees m.Closes ts ≡ false
 class_opens _ _ _ (a_class_name w name rest) = refl
 
 closes_no_comma : (w : Spot) (rest : List Lexeme) → sees m.Comma (t.Mark w m.Closes ∷ rest) ≡ false
