@@ -12,3 +12,4 @@ pub mod ReadStatements
 pub mod ReadLevels
 pub mod ReadData
 pub mod ReadImports
+pub mod ReadHeads
