@@ -13,3 +13,4 @@ pub mod ReadLevels
 pub mod ReadData
 pub mod ReadImports
 pub mod ReadHeads
+pub mod ReadItems

@@ -23,13 +23,13 @@ use Rattle.rw_grammar.proofs.ReadSides.{name_exact}
 use Rattle.rw_grammar.proofs.ReadData.{class_exact}
 use Rattle.rw_grammar.proofs.ReadLocals.{ends_entry}
 
-class_is : (ts : List Lexeme) (p : List ℕ × List Lexeme) → class_name_at ts ≡ Some p → (w : Spot) × (ts ≡ t.Constructor w p.0 ∷ p.1)
+pub class_is : (ts : List Lexeme) (p : List ℕ × List Lexeme) → class_name_at ts ≡ Some p → (w : Spot) × (ts ≡ t.Constructor w p.0 ∷ p.1)
 class_is ts p h = go (class_exact.sound ts p h)
   where
     go : {xs behind : List Lexeme} {name : List ℕ} → IsClassName xs name behind → (w : Spot) × (xs ≡ t.Constructor w name ∷ behind)
     go (a_class_name w name rest) = (w, refl)
 
-class_read : (w : Spot) (name : List ℕ) (ts : List Lexeme) → class_name_at (t.Constructor w name ∷ ts) ≡ Some (name, ts)
+pub class_read : (w : Spot) (name : List ℕ) (ts : List Lexeme) → class_name_at (t.Constructor w name ∷ ts) ≡ Some (name, ts)
 class_read w name ts = class_exact.complete (t.Constructor w name ∷ ts) name ts (a_class_name w name ts) refl
 
 -- a point that is seen stands there
