@@ -13,4 +13,5 @@ pub mod ReadLevels
 pub mod ReadData
 pub mod ReadImports
 pub mod ReadHeads
+pub mod ReadSignatures
 pub mod ReadItems

@@ -17,10 +17,10 @@ use Rattle.rw_grammar.specs.Declarations.{IsParameter, a_parameter, IsConstructo
 use Rattle.rw_grammar.specs.Read.{◌>>=◌, Read, same_mark, sees, after, separated_at, many_at, variable_at, constructor_at, begins_variable, begins_constructor}
 use Rattle.rw_grammar.specs.ReadTypes.{begins_atype, ends_btype, ends_type, atype_at, atypes_at}
 use Rattle.rw_grammar.specs.ReadDeclarations.{parameters_at, ends_constructors, data_constructor_at, constructors_at, class_name_at, classes_at, derived_at, deriving_at, data_at, newtype_at, data_or_newtype_at}
+use Rattle.rw_grammar.specs.ReadClauses.{ends_entry}
 use Rattle.rw_grammar.proofs.ReadExact.{bind_some, chosen, some_is, moved, not_true, neither, is_same, same_self, seen_is, after_is, after_mark, always, Exact, Runs, separated_sound, separated_read, separated_shorter, separated_exact, many_runs, first_has}
 use Rattle.rw_grammar.proofs.ReadTypes.{atype_exact, atypes_runs}
 use Rattle.rw_grammar.proofs.ReadSides.{variable_is}
-use Rattle.rw_grammar.proofs.ReadLocals.{ends_entry}
 
 pub constructor_is : (ts : List Lexeme) (p : (Spot × List ℕ) × List Lexeme) → constructor_at ts ≡ Some p → ts ≡ t.Constructor p.0.0 p.0.1 ∷ p.1
 constructor_is [] p h = absurd (cc)

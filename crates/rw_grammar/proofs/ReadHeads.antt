@@ -21,9 +21,9 @@ use Rattle.rw_grammar.specs.Declarations.{side_of, strength_of, IsStrength, no_s
 use Rattle.rw_grammar.specs.Read.{◌>>=◌, Read, same_mark, sees, after, separated_at}
 use Rattle.rw_grammar.specs.ReadNames.{begins_op}
 use Rattle.rw_grammar.specs.ReadDeclarations.{sees_point, module_name_at, exports_at, sees_word, behind_word, behind_as, import_at, quoted_name_at, operator_name_at, side_at, strength_at, fixity_at}
+use Rattle.rw_grammar.specs.ReadClauses.{ends_entry}
 use Rattle.rw_grammar.proofs.ReadExact.{bind_some, chosen, some_is, moved, not_true, neither, is_same, same_self, seen_is, after_is, after_mark, always, Exact, Runs, separated_sound, separated_read, separated_shorter, first_has}
 use Rattle.rw_grammar.proofs.ReadImports.{no_point, no_opening, module_exact, exports_runs}
-use Rattle.rw_grammar.proofs.ReadLocals.{ends_entry}
 
 -- ---- words
 word_sound : (word : List ℕ) (ts : List Lexeme) → IsOptionalWord word ts (behind_word word ts)

@@ -16,12 +16,11 @@ use Rattle.rw_grammar.specs.Names.{IsVariableName, a_name, an_operator_name}
 use Rattle.rw_grammar.specs.Declarations.{pointed, IsModuleParts, last_part, more_parts, IsEntityName, a_variable_name, a_constructor_name, IsParts, no_parts, all_parts, empty_parts, some_parts, IsExport, an_exported_variable, an_exported_type, an_exported_module}
 use Rattle.rw_grammar.specs.Declarations.{IsExports, no_exports, empty_exports, some_exports, IsOptionalWord, no_word, the_word, IsAs, no_as, an_as, IsImport, an_import, IsClassName, a_class_name}
 use Rattle.rw_grammar.specs.Read.{◌>>=◌, Read, same_mark, sees, after, separated_at, begins_constructor}
-use Rattle.rw_grammar.specs.ReadClauses.{variable_name_at}
+use Rattle.rw_grammar.specs.ReadClauses.{ends_entry, variable_name_at}
 use Rattle.rw_grammar.specs.ReadDeclarations.{class_name_at, sees_point, module_parts_at, module_name_at, entity_name_at, entities_at, inside_parts_at, parts_at, exported_type_at, exported_module_at, export_at, inside_exports_at, exports_at, sees_word, behind_word, behind_as, import_at}
 use Rattle.rw_grammar.proofs.ReadExact.{bind_some, chosen, some_is, moved, not_true, neither, is_same, same_self, seen_is, after_is, after_mark, always, Exact, Runs, separated_sound, separated_read, separated_shorter, first_has}
 use Rattle.rw_grammar.proofs.ReadSides.{name_exact}
 use Rattle.rw_grammar.proofs.ReadData.{class_exact}
-use Rattle.rw_grammar.proofs.ReadLocals.{ends_entry}
 
 pub class_is : (ts : List Lexeme) (p : List ℕ × List Lexeme) → class_name_at ts ≡ Some p → (w : Spot) × (ts ≡ t.Constructor w p.0 ∷ p.1)
 class_is ts p h = go (class_exact.sound ts p h)

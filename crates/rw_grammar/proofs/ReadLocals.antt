@@ -25,16 +25,13 @@ use Rattle.rw_grammar.specs.Read.{Read, same_mark, sees, after, separated_at, bl
 use Rattle.rw_grammar.specs.ReadTypes.{ends_type, ends_pattern, apats_at}
 use Rattle.rw_grammar.specs.ReadNames.{begins_op, beyond}
 use Rattle.rw_grammar.specs.ReadExpressions.{ends_expression}
-use Rattle.rw_grammar.specs.ReadClauses.{ends_clause, right_side_at, where_at, opens_operator, begins_infix, ends_left_side, left_side_at, clause_at, begins_signature, begins_binding, binding_group_at, binding_built_at, binding_at, local_signature_at, local_clause_at, local_pattern_at, local_at, locals_over_at, begins_bind}
+use Rattle.rw_grammar.specs.ReadClauses.{ends_clause, ends_entry, right_side_at, where_at, opens_operator, begins_infix, ends_left_side, left_side_at, clause_at, begins_signature, begins_binding, binding_group_at, binding_built_at, binding_at, local_signature_at, local_clause_at, local_pattern_at, local_at, locals_over_at, begins_bind}
 use Rattle.rw_grammar.proofs.ReadExact.{bind_some, chosen, moved, is_same, same_self, seen_is, after_is, after_mark, always, Exact, separated_sound, separated_read, separated_shorter, block_exact}
 use Rattle.rw_grammar.proofs.ReadPatterns.{apats_runs}
 use Rattle.rw_grammar.proofs.Plain.{apat_is, IsPlainly, separated_beyond, separated_begins, apats_beyond, beyond_opens, beyond_closes}
 use Rattle.rw_grammar.proofs.ReadSides.{variable_is, operator_stands, ends_left, equal_arrow, side_exact, side_follows, where_runs, where_ends_side, left_exact, clause_exact}
 
 -- ---- what follows an entry of a block: `;` or `}`
-abbrev pub ends_entry : List Lexeme → Bool
-ends_entry ts = sees m.Semicolon ts || sees m.ClosesBlock ts
-
 -- what an entry's end ends
 pub record EndsAll (ts : List Lexeme) : Type 0 where
   pub clause : ends_clause ts ≡ true

@@ -17,11 +17,11 @@ use Rattle.rw_grammar.specs.Clauses.{IsStatement, a_bind, a_let_statement, a_run
 use Rattle.rw_grammar.specs.Read.{Read, same_mark, sees, after, block_at}
 use Rattle.rw_grammar.specs.ReadTypes.{ends_pattern}
 use Rattle.rw_grammar.specs.ReadExpressions.{ends_expression}
-use Rattle.rw_grammar.specs.ReadClauses.{begins_bind, bind_at, let_statement_at, run_at, statement_at, statements_at}
+use Rattle.rw_grammar.specs.ReadClauses.{ends_entry, begins_bind, bind_at, let_statement_at, run_at, statement_at, statements_at}
 use Rattle.rw_grammar.proofs.ReadExact.{bind_some, chosen, moved, same_self, seen_is, after_is, after_mark, always, Exact, block_exact}
 use Rattle.rw_grammar.proofs.ReadExpressions.{Begins}
 use Rattle.rw_grammar.proofs.Plain.{apat_is, IsPlainly, Passes}
-use Rattle.rw_grammar.proofs.ReadLocals.{ends_entry, entry_ends, block_closes, block_goes}
+use Rattle.rw_grammar.proofs.ReadLocals.{entry_ends, block_closes, block_goes}
 
 -- the parts of an expression that begins with `let`, one level deeper
 pub data LetParts (Lower : List Lexeme → List (Local Span) → List Lexeme → Type 0) (Below : List Lexeme → Expr Span → List Lexeme → Type 0) : List Lexeme → Expr Span → List Lexeme → Type 0 where

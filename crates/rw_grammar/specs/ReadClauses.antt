@@ -29,6 +29,10 @@ use Rattle.rw_grammar.specs.Read.{◌>>=◌, Read, same_mark, sees, after, separ
 use Rattle.rw_grammar.specs.ReadNames.{begins_op, beyond}
 use Rattle.rw_grammar.specs.ReadExpressions.{begins_aexp}
 
+-- what follows an entry of a block, and an item: `;` or `}`
+abbrev pub ends_entry : List Lexeme → Bool
+ends_entry ts = sees m.Semicolon ts || sees m.ClosesBlock ts
+
 -- a list that has something
 abbrev pub is_some : {A : Type 0} → List A → Bool
 is_some [] = false

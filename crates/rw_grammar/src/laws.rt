@@ -9,10 +9,13 @@ ghost use Rattle.rw_tree.specs.declared.clause.Local.{Local};
 ghost use Rattle.rw_grammar.specs.declared.lexeme.Lexeme.{Lexeme};
 ghost use Rattle.rw_grammar.specs.Types.{IsType};
 ghost use Rattle.rw_grammar.specs.Patterns.{IsApat, IsPattern};
+ghost use Rattle.rw_grammar.specs.Grammar.{IsItem};
+ghost use Rattle.rw_grammar.specs.ReadDeclarations.{item_at};
+ghost use Rattle.rw_grammar.specs.declared.item.Item.{Item};
 ghost use Rattle.rw_grammar.specs.Clauses.{IsLeftSide, IsClause, IsExpression, IsLocals};
 ghost use Rattle.rw_grammar.specs.ReadTypes.{ends_type, ends_pattern, type_at, pattern_at};
 ghost use Rattle.rw_grammar.specs.ReadExpressions.{ends_expression};
-ghost use Rattle.rw_grammar.specs.ReadClauses.{ends_clause};
+ghost use Rattle.rw_grammar.specs.ReadClauses.{ends_clause, ends_entry};
 ghost use Rattle.rw_grammar.specs.ReadLevels.{clause_over, expression_at, locals_at};
 
 /// Reading from left to right, with one token of lookahead, gives exactly the type that tokens begin with, where what
@@ -58,4 +61,15 @@ pub fn clauses_are_read()
 pub fn one_expression_and_one_block()
     ensures expressions { (n : ℕ) (tokens first second : List Lexeme) (a b : Expr Span) → IsExpression n tokens a first → ends_expression first ≡ true → IsExpression n tokens b second → ends_expression second ≡ true → a ≡ b }
     ensures blocks { (n : ℕ) (tokens first second : List Lexeme) (a b : List (Local Span)) → IsLocals n tokens a first → IsLocals n tokens b second → a ≡ b }
+{}
+
+/// Reading from left to right gives exactly the item that tokens begin with, before a semicolon or a closing brace.
+pub fn items_are_read()
+    ensures spelled { (n : ℕ) (tokens rest : List Lexeme) (item : Item) → item_at n tokens ≡ Some (item, rest) → IsItem n tokens item rest }
+    ensures read { (n : ℕ) (tokens rest : List Lexeme) (item : Item) → IsItem n tokens item rest → ends_entry rest ≡ true → item_at n tokens ≡ Some (item, rest) }
+{}
+
+/// Tokens begin with one item at most, before a semicolon or a closing brace.
+pub fn one_item()
+    ensures { (n : ℕ) (tokens first second : List Lexeme) (a b : Item) → IsItem n tokens a first → ends_entry first ≡ true → IsItem n tokens b second → ends_entry second ≡ true → a ≡ b }
 {}
