@@ -15,3 +15,5 @@ pub mod ReadImports
 pub mod ReadHeads
 pub mod ReadSignatures
 pub mod ReadItems
+pub mod Deeper
+pub mod Frames

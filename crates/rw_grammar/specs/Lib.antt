@@ -20,3 +20,4 @@ pub mod ReadExpressions
 pub mod ReadClauses
 pub mod ReadLevels
 pub mod ReadDeclarations
+pub mod ReadProgram
