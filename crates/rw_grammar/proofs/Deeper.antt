@@ -1,18 +1,13 @@
 -- What is spelled with some levels inside is spelled with more.
-use Rattle.std.proofs.Common.{◌≡◌, ℕ, zero, suc, ◌+◌, ◌≤◌, List, [], ◌∷◌, refl, subst, arith}
+use Rattle.std.proofs.Common.{◌≡◌, ℕ, zero, suc, ◌+◌, List, refl, subst, arith}
 use Rattle.rw_base.specs.declared.place.Span.{Span}
 use Rattle.rw_tree.specs.declared.types.Written.{Written}
 use Rattle.rw_tree.specs.declared.pattern.Pat.{Pat}
 use Rattle.rw_tree.specs.declared.expr.Expr.{Expr}
 use Rattle.rw_tree.specs.declared.clause.Alt.{Alt}
-use Rattle.rw_tree.specs.declared.clause.Rhs.{Rhs}
-use Rattle.rw_tree.specs.declared.clause.Guard.{Guard}
 use Rattle.rw_tree.specs.declared.clause.Local.{Local}
 use Rattle.rw_tree.specs.declared.clause.Stmt.{Stmt}
-use Rattle.rw_tree.specs.declared.decl.Constructor.{Constructor}
-use Rattle.rw_tree.specs.declared.decl.Decl.{Decl}
 use Rattle.rw_grammar.specs.declared.item.Bound.{Bound}
-use Rattle.rw_grammar.specs.declared.item.Item.{Item}
 use Rattle.rw_grammar.specs.declared.lexeme.Mark.{Mark}
 use Rattle.rw_grammar.specs.declared.lexeme.Lexeme.{Lexeme}
 use Rattle.rw_grammar.specs.Lists.{IsSeparated, the_last, and_more, IsMany, no_more, one_more, IsEntries, no_entry, skipped, last_entry, next_entry, IsBlock, a_block}
@@ -21,7 +16,7 @@ use Rattle.rw_grammar.specs.Patterns.{IsApat, a_variable_pattern, a_wildcard, a_
 use Rattle.rw_grammar.specs.Expressions.{IsAexp, a_variable, an_operator_variable, a_constructor, a_unit, a_group, IsOperand, an_application, a_case, a_do, IsLast, an_operand, a_lambda, a_let, an_if, IsChain, no_operator, an_operator, IsExpressionOver, an_expression}
 use Rattle.rw_grammar.specs.Clauses.{IsGuard, a_guard, IsRightSide, unguarded, guarded, IsWhere, no_where, a_where, IsLeftSide, a_prefix, an_infix, IsClause, a_clause, IsAlternative, an_alternative, IsAlternatives, alternatives}
 use Rattle.rw_grammar.specs.Clauses.{IsLocal, a_local_signature, a_local_clause, a_local_pattern, IsLocalsOver, some_locals, IsStatement, a_bind, a_let_statement, a_run, IsStatements, statements, IsExpression, IsLocals, IsLocalsBelow}
-use Rattle.rw_grammar.specs.Declarations.{IsConstructor, a_data_constructor, IsConstructors, no_constructors, some_constructors, IsData, a_data, a_newtype, IsSignature, a_signature, IsItemOver, an_import_item, a_data_item, a_fixity_item, a_signature_item, a_clause_item}
+use Rattle.rw_grammar.specs.Declarations.{IsConstructor, a_data_constructor, IsConstructors, no_constructors, some_constructors, IsData, a_data, a_newtype, IsSignature, a_signature, an_import_item, a_data_item, a_fixity_item, a_signature_item, a_clause_item}
 use Rattle.rw_grammar.specs.Grammar.{IsItem}
 
 -- whatever one relation holds of, the other does

@@ -1,5 +1,5 @@
 -- Tokens have one frame at most, and spell one program at most.
-use Rattle.std.proofs.Common.{◌≡◌, ℕ, zero, suc, ◌+◌, Bool, true, false, not, List, [], ◌∷◌, length, drop, Option, Some, None, refl, sym, ap, subst, ◌∙◌, arith}
+use Rattle.std.proofs.Common.{◌≡◌, ℕ, suc, ◌+◌, true, false, not, List, [], ◌∷◌, drop, Some, refl, sym, ap, subst, ◌∙◌, arith}
 use Rattle.rw_base.specs.declared.place.Span.{Span}
 use Rattle.rw_tree.specs.declared.program.Program.{Program}
 use Rattle.rw_lex.specs.declared.token.Token.{Token}
@@ -9,11 +9,10 @@ use Rattle.rw_grammar.specs.declared.lexeme.Mark.TheVariants as m
 use Rattle.rw_grammar.specs.declared.lexeme.Spot.{Spot}
 use Rattle.rw_grammar.specs.declared.lexeme.Lexeme.{Lexeme}
 use Rattle.rw_grammar.specs.declared.lexeme.Lexeme.TheVariants as t
-use Rattle.rw_grammar.specs.Lexemes.{lexemes}
-use Rattle.rw_grammar.specs.Declarations.{IsModuleParts, IsExports, no_exports, empty_exports, some_exports}
+use Rattle.rw_grammar.specs.Declarations.{IsExports, no_exports, empty_exports, some_exports}
 use Rattle.rw_grammar.specs.Grammar.{IsItem, IsHeader, no_header, a_header, is_inside, IsRun, ends_by_semicolon, ends_by_brace, opens_braces, closes_braces, stays_in_braces, goes_on, IsRuns, the_last_run, another_run, IsFrame, a_frame}
 use Rattle.rw_grammar.specs.Grammar.{whole_run, AreItems, no_items, nothing, something, item_groups, declarations_of, Spells, spells}
-use Rattle.rw_grammar.specs.Read.{same_mark, sees, after}
+use Rattle.rw_grammar.specs.Read.{same_mark, sees}
 use Rattle.rw_grammar.specs.ReadClauses.{ends_entry}
 use Rattle.rw_grammar.specs.ReadDeclarations.{sees_point, module_name_at, exports_at}
 use Rattle.rw_grammar.specs.ReadProgram.{header_at, Run, run_before, run_at}
@@ -93,3 +92,76 @@ run_read (goes_on d x ts run rest end h r) = inside_read d x ts h ∙ ap (run_be
 
 one_run : {ts : List Lexeme} (p q : Run) → IsRun 0 ts p.0 p.1.0 p.1.1 → IsRun 0 ts q.0 q.1.0 q.1.1 → p ≡ q
 one_run p q a b = some_is p q (sym (run_read a) ∙ run_read b)
+
+closing : (p q : Run) → p ≡ q → sees m.ClosesBlock (p.1.0 ∷ []) ≡ sees m.ClosesBlock (q.1.0 ∷ [])
+closing p q e = ap (λ (z : Run). sees m.ClosesBlock (z.1.0 ∷ [])) e
+
+brace_closes : (w : Spot) → sees m.ClosesBlock (t.Mark w m.ClosesBlock ∷ []) ≡ true
+unfolding same_mark
+brace_closes w = refl
+
+semicolon_stays : (w : Spot) → sees m.ClosesBlock (t.Mark w m.Semicolon ∷ []) ≡ false
+unfolding same_mark
+semicolon_stays w = refl
+
+pub one_runs : {ts : List Lexeme} {rs qs : List (List Lexeme × Lexeme)} → IsRuns ts rs → IsRuns ts qs → rs ≡ qs
+one_runs (the_last_run w ts run r) (the_last_run v us other s) = ap (λ (z : Run). (z.0, z.1.0) ∷ []) (one_run (run, (t.Mark w m.ClosesBlock, [])) (other, (t.Mark v m.ClosesBlock, [])) r s)
+one_runs (the_last_run w ts run r) (another_run v us other rest others s k) =
+    absurd (let e = closing (run, (t.Mark w m.ClosesBlock, [])) (other, (t.Mark v m.Semicolon, rest)) (one_run (run, (t.Mark w m.ClosesBlock, [])) (other, (t.Mark v m.Semicolon, rest)) r s) in
+    let f : true ≡ false = sym (brace_closes w) ∙ e ∙ semicolon_stays v in cc)
+one_runs (another_run w ts run rest others r k) (the_last_run v us other s) =
+    absurd (let e = closing (run, (t.Mark w m.Semicolon, rest)) (other, (t.Mark v m.ClosesBlock, [])) (one_run (run, (t.Mark w m.Semicolon, rest)) (other, (t.Mark v m.ClosesBlock, [])) r s) in
+    let f : true ≡ false = sym (brace_closes v) ∙ sym e ∙ semicolon_stays w in cc)
+one_runs (another_run w ts run rest others r k) (another_run v us other behind more s l) =
+    let e = one_run (run, (t.Mark w m.Semicolon, rest)) (other, (t.Mark v m.Semicolon, behind)) r s in
+    let same : others ≡ more = one_runs k (subst (λ z. IsRuns z more) (sym (ap (λ (z : Run). z.1.1) e)) l) in
+    ap (λ (z : Run). (z.0, z.1.0) ∷ others) e ∙ ap (λ z. (other, t.Mark v m.Semicolon) ∷ z) same
+
+pub one_frame : {ts : List Lexeme} {rs qs : List (List Lexeme × Lexeme)} → IsFrame ts rs → IsFrame ts qs → rs ≡ qs
+one_frame (a_frame w ts rest rs h r) (a_frame v us behind qs k s) =
+    let e = some_is (t.Mark w m.OpensBlock ∷ rest) (t.Mark v m.OpensBlock ∷ behind) (sym (header_complete ts _ h w rest refl) ∙ header_complete ts _ k v behind refl) in
+    one_runs r (subst (λ z. IsRuns z qs) (sym (ap (drop 1) e)) s)
+
+-- ---- items
+abbrev AllEnd : List (List Lexeme × Lexeme) → Type 0
+AllEnd [] = Unit {0}
+AllEnd (r ∷ rs) = (ends_entry (r.1 ∷ []) ≡ true) × AllEnd rs
+
+brace_ends : (w : Spot) → ends_entry (t.Mark w m.ClosesBlock ∷ []) ≡ true
+unfolding same_mark
+brace_ends w = refl
+
+semicolon_ends : (w : Spot) → ends_entry (t.Mark w m.Semicolon ∷ []) ≡ true
+unfolding same_mark
+semicolon_ends w = refl
+
+runs_end : {ts : List Lexeme} {rs : List (List Lexeme × Lexeme)} → IsRuns ts rs → AllEnd rs
+runs_end (the_last_run w ts run r) = (brace_ends w, tt)
+runs_end (another_run w ts run rest others r k) = (semicolon_ends w, runs_end k)
+
+frame_ends : {ts : List Lexeme} {rs : List (List Lexeme × Lexeme)} → IsFrame ts rs → AllEnd rs
+frame_ends (a_frame w ts rest rs h r) = runs_end r
+
+-- nothing is no item
+no_item : {A : Type 0} (n : ℕ) (end : Lexeme) (item : Item) → IsItem n (end ∷ []) item (end ∷ []) → A
+no_item n end item d = let h = (item_exact n).shorter (end ∷ []) item (end ∷ []) d in absurd (omega arith)
+
+-- at two depths
+one_item_of : (n k : ℕ) (ts rest : List Lexeme) (a b : Item) → IsItem n ts a rest → IsItem k ts b rest → ends_entry rest ≡ true → a ≡ b
+one_item_of n k ts rest a b x y s =
+    let p : k + n ≡ n + k = omega arith in
+    ap (λ (z : Item × List Lexeme). z.0) (one_front (item_exact (k + n)) ts (a, rest) (b, rest) (item_deeper k n (k + n) refl ts a rest x) s (item_deeper n k (k + n) p ts b rest y) s)
+
+one_items : {rs : List (List Lexeme × Lexeme)} {firsts seconds : List Item} → AllEnd rs → AreItems rs firsts → AreItems rs seconds → firsts ≡ seconds
+one_items h no_items no_items = refl
+one_items h (nothing end rs firsts x) (nothing other qs seconds y) = one_items h.1 x y
+one_items h (nothing end rs firsts x) (something n run other qs item seconds d y) = no_item n other item d
+one_items h (something n run end rs item firsts d x) (nothing other qs seconds y) = no_item n end item d
+one_items h (something n run end rs item firsts d x) (something k other last qs made seconds e y) =
+    ap (λ z. z ∷ firsts) (one_item_of n k (whole_run run end) (end ∷ []) item made d e h.0) ∙ ap (λ z. made ∷ z) (one_items h.1 x y)
+
+pub one_program : (tokens : List Token) (a b : Program Span) → Spells tokens a → Spells tokens b → a ≡ b
+one_program _ _ _ (spells tokens rs firsts f x) (spells others qs seconds g y) =
+    let e : rs ≡ qs = one_frame f g in
+    let s : firsts ≡ seconds = one_items (frame_ends f) x (subst (λ z. AreItems z seconds) (sym e) y) in
+    ap (λ z. record { decls = declarations_of (item_groups z); types = [] }) s

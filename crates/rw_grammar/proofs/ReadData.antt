@@ -1,24 +1,22 @@
 -- Declarations of data types are read exactly.
-use Rattle.std.proofs.Common.{◌≡◌, ℕ, zero, suc, ◌<◌, ◌≤◌, Bool, true, false, not, ◌||◌, cond, List, [], ◌∷◌, length, drop, Option, Some, None, refl, sym, ap, subst, ◌∙◌, arith, ◌⊎◌, inl, inr}
+use Rattle.std.proofs.Common.{◌≡◌, ℕ, ◌<◌, ◌≤◌, Bool, true, false, not, ◌||◌, List, [], ◌∷◌, length, drop, Some, None, refl, sym, ap, subst, ◌∙◌, arith, ◌⊎◌, inl, inr}
 use Rattle.rw_base.specs.declared.place.Span.{Span}
 use Rattle.rw_tree.specs.declared.types.Written.{Written}
 use Rattle.rw_tree.specs.declared.decl.Constructor.{Constructor}
 use Rattle.rw_tree.specs.declared.decl.Decl.{Decl}
 use Rattle.rw_tree.specs.declared.decl.Decl.TheVariants as d
-use Rattle.rw_grammar.specs.declared.lexeme.Mark.{Mark}
 use Rattle.rw_grammar.specs.declared.lexeme.Mark.TheVariants as m
 use Rattle.rw_grammar.specs.declared.lexeme.Spot.{Spot}
 use Rattle.rw_grammar.specs.declared.lexeme.Lexeme.{Lexeme}
 use Rattle.rw_grammar.specs.declared.lexeme.Lexeme.TheVariants as t
 use Rattle.rw_grammar.specs.Lexemes.{next_spot, span_at, span_of}
-use Rattle.rw_grammar.specs.Lists.{IsSeparated, the_last, and_more, IsMany, no_more, one_more}
-use Rattle.rw_grammar.specs.Types.{IsAtype}
+use Rattle.rw_grammar.specs.Lists.{IsSeparated, IsMany}
 use Rattle.rw_grammar.specs.Declarations.{IsParameter, a_parameter, IsConstructor, a_data_constructor, IsConstructors, no_constructors, some_constructors, IsClassName, a_class_name, IsDeriving, no_deriving, derives_one, derives_none, derives_some, IsData, a_data, a_newtype}
-use Rattle.rw_grammar.specs.Read.{◌>>=◌, Read, same_mark, sees, after, separated_at, many_at, variable_at, constructor_at, begins_variable, begins_constructor}
+use Rattle.rw_grammar.specs.Read.{◌>>=◌, Read, same_mark, sees, after, separated_at, variable_at, constructor_at, begins_variable}
 use Rattle.rw_grammar.specs.ReadTypes.{begins_atype, ends_btype, ends_type, atype_at, atypes_at}
 use Rattle.rw_grammar.specs.ReadDeclarations.{parameters_at, ends_constructors, data_constructor_at, constructors_at, class_name_at, classes_at, derived_at, deriving_at, data_at, newtype_at, data_or_newtype_at}
 use Rattle.rw_grammar.specs.ReadClauses.{ends_entry}
-use Rattle.rw_grammar.proofs.ReadExact.{bind_some, chosen, some_is, moved, not_true, neither, is_same, same_self, seen_is, after_is, after_mark, always, Exact, Runs, separated_sound, separated_read, separated_shorter, separated_exact, many_runs, first_has}
+use Rattle.rw_grammar.proofs.ReadExact.{bind_some, chosen, some_is, moved, not_true, neither, is_same, same_self, seen_is, after_is, after_mark, always, Exact, Runs, separated_sound, separated_read, separated_shorter, many_runs, first_has}
 use Rattle.rw_grammar.proofs.ReadTypes.{atype_exact, atypes_runs}
 use Rattle.rw_grammar.proofs.ReadSides.{variable_is}
 

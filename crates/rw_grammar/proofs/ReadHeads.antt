@@ -1,11 +1,10 @@
 -- Imports and fixity declarations are read exactly.
-use Rattle.std.proofs.Common.{◌≡◌, ℕ, zero, suc, ◌<◌, ◌≤◌, Bool, true, false, not, ◌||◌, cond, List, [], ◌∷◌, length, drop, Option, Some, None, refl, sym, ap, subst, ◌∙◌, arith, ◌⊎◌, inl, inr}
+use Rattle.std.proofs.Common.{◌≡◌, ℕ, ◌<◌, ◌≤◌, Bool, true, false, not, ◌||◌, cond, List, [], ◌∷◌, length, drop, Some, None, refl, sym, ap, subst, ◌∙◌, arith, ◌⊎◌, inl, inr}
 use Rattle.std.specs.Prelude.{codes}
 use Rattle.std.specs.Str.{bytes_eq}
 use Rattle.std.proofs.lemmas.Slice.Eq.{bytes_eq-Decides}
 use Rattle.rw_base.specs.declared.place.Span.{Span}
 use Rattle.rw_tree.specs.declared.decl.Side.{Side}
-use Rattle.rw_tree.specs.declared.decl.Side.TheVariants as side
 use Rattle.rw_tree.specs.declared.decl.Decl.{Decl}
 use Rattle.rw_tree.specs.declared.decl.Decl.TheVariants as d
 use Rattle.rw_grammar.specs.declared.lexeme.Mark.{Mark}
@@ -14,16 +13,15 @@ use Rattle.rw_grammar.specs.declared.lexeme.Spot.{Spot}
 use Rattle.rw_grammar.specs.declared.lexeme.Lexeme.{Lexeme}
 use Rattle.rw_grammar.specs.declared.lexeme.Lexeme.TheVariants as t
 use Rattle.rw_grammar.specs.Lexemes.{next_spot, span_at, span_of}
-use Rattle.rw_grammar.specs.Lists.{IsSeparated}
 use Rattle.rw_grammar.specs.Names.{IsVariableOperator, a_symbol_operator, a_named_operator, IsOperator, a_variable_operator, a_constructor_operator}
 use Rattle.rw_grammar.specs.Declarations.{pointed, IsModuleParts, last_part, more_parts, IsExports, no_exports, empty_exports, some_exports, IsOptionalWord, no_word, the_word, IsAs, no_as, an_as, IsImport, an_import}
 use Rattle.rw_grammar.specs.Declarations.{side_of, strength_of, IsStrength, no_strength, a_strength, IsFixity, a_fixity}
-use Rattle.rw_grammar.specs.Read.{◌>>=◌, Read, same_mark, sees, after, separated_at}
+use Rattle.rw_grammar.specs.Read.{same_mark, sees, after, separated_at}
 use Rattle.rw_grammar.specs.ReadNames.{begins_op}
 use Rattle.rw_grammar.specs.ReadDeclarations.{sees_point, module_name_at, exports_at, sees_word, behind_word, behind_as, import_at, quoted_name_at, operator_name_at, side_at, strength_at, fixity_at}
 use Rattle.rw_grammar.specs.ReadClauses.{ends_entry}
-use Rattle.rw_grammar.proofs.ReadExact.{bind_some, chosen, some_is, moved, not_true, neither, is_same, same_self, seen_is, after_is, after_mark, always, Exact, Runs, separated_sound, separated_read, separated_shorter, first_has}
-use Rattle.rw_grammar.proofs.ReadImports.{no_point, no_opening, module_exact, exports_runs}
+use Rattle.rw_grammar.proofs.ReadExact.{bind_some, chosen, some_is, moved, is_same, same_self, after_is, after_mark, always, Exact, separated_sound, separated_read, separated_shorter, first_has}
+use Rattle.rw_grammar.proofs.ReadImports.{no_opening, module_exact, exports_runs}
 
 -- ---- words
 word_sound : (word : List ℕ) (ts : List Lexeme) → IsOptionalWord word ts (behind_word word ts)

@@ -1,24 +1,20 @@
 -- Imports and exports are read exactly.
-use Rattle.std.proofs.Common.{◌≡◌, ℕ, zero, suc, ◌<◌, ◌≤◌, Bool, true, false, not, ◌||◌, cond, List, [], ◌∷◌, length, drop, Option, Some, None, refl, sym, ap, subst, ◌∙◌, arith, ◌⊎◌, inl, inr}
+use Rattle.std.proofs.Common.{◌≡◌, ℕ, zero, suc, ◌<◌, ◌≤◌, Bool, true, false, not, ◌||◌, List, [], ◌∷◌, length, drop, Some, refl, sym, ap, subst, ◌∙◌, arith, inl, inr}
 use Rattle.std.specs.Prelude.{codes}
 use Rattle.std.specs.Str.{bytes_eq}
-use Rattle.rw_base.specs.declared.place.Span.{Span}
-use Rattle.rw_tree.specs.declared.decl.Decl.{Decl}
-use Rattle.rw_tree.specs.declared.decl.Decl.TheVariants as d
-use Rattle.rw_grammar.specs.declared.lexeme.Mark.{Mark}
 use Rattle.rw_grammar.specs.declared.lexeme.Mark.TheVariants as m
 use Rattle.rw_grammar.specs.declared.lexeme.Spot.{Spot}
 use Rattle.rw_grammar.specs.declared.lexeme.Lexeme.{Lexeme}
 use Rattle.rw_grammar.specs.declared.lexeme.Lexeme.TheVariants as t
-use Rattle.rw_grammar.specs.Lexemes.{next_spot, span_at, span_of}
+use Rattle.rw_grammar.specs.Lexemes.{next_spot}
 use Rattle.rw_grammar.specs.Lists.{IsSeparated}
 use Rattle.rw_grammar.specs.Names.{IsVariableName, a_name, an_operator_name}
 use Rattle.rw_grammar.specs.Declarations.{pointed, IsModuleParts, last_part, more_parts, IsEntityName, a_variable_name, a_constructor_name, IsParts, no_parts, all_parts, empty_parts, some_parts, IsExport, an_exported_variable, an_exported_type, an_exported_module}
-use Rattle.rw_grammar.specs.Declarations.{IsExports, no_exports, empty_exports, some_exports, IsOptionalWord, no_word, the_word, IsAs, no_as, an_as, IsImport, an_import, IsClassName, a_class_name}
-use Rattle.rw_grammar.specs.Read.{◌>>=◌, Read, same_mark, sees, after, separated_at, begins_constructor}
-use Rattle.rw_grammar.specs.ReadClauses.{ends_entry, variable_name_at}
-use Rattle.rw_grammar.specs.ReadDeclarations.{class_name_at, sees_point, module_parts_at, module_name_at, entity_name_at, entities_at, inside_parts_at, parts_at, exported_type_at, exported_module_at, export_at, inside_exports_at, exports_at, sees_word, behind_word, behind_as, import_at}
-use Rattle.rw_grammar.proofs.ReadExact.{bind_some, chosen, some_is, moved, not_true, neither, is_same, same_self, seen_is, after_is, after_mark, always, Exact, Runs, separated_sound, separated_read, separated_shorter, first_has}
+use Rattle.rw_grammar.specs.Declarations.{IsExports, no_exports, empty_exports, some_exports, IsClassName, a_class_name}
+use Rattle.rw_grammar.specs.Read.{same_mark, sees, after, separated_at, begins_constructor}
+use Rattle.rw_grammar.specs.ReadClauses.{variable_name_at}
+use Rattle.rw_grammar.specs.ReadDeclarations.{class_name_at, sees_point, module_parts_at, module_name_at, entity_name_at, entities_at, inside_parts_at, parts_at, exported_type_at, exported_module_at, export_at, inside_exports_at, exports_at}
+use Rattle.rw_grammar.proofs.ReadExact.{bind_some, chosen, moved, not_true, neither, same_self, seen_is, after_is, after_mark, always, Exact, Runs, separated_sound, separated_read, separated_shorter, first_has}
 use Rattle.rw_grammar.proofs.ReadSides.{name_exact}
 use Rattle.rw_grammar.proofs.ReadData.{class_exact}
 

@@ -1,7 +1,6 @@
 -- Items are read exactly.
-use Rattle.std.proofs.Common.{◌≡◌, ℕ, zero, suc, ◌<◌, ◌≤◌, Bool, true, false, not, ◌||◌, ◌&&◌, cond, List, [], ◌∷◌, length, drop, Option, Some, None, refl, sym, ap, subst, ◌∙◌, arith, ◌⊎◌, inl, inr}
+use Rattle.std.proofs.Common.{◌≡◌, ℕ, zero, suc, ◌<◌, Bool, true, false, ◌||◌, ◌&&◌, List, [], ◌∷◌, length, Option, Some, None, refl, sym, ap, subst, ◌∙◌, ◌⊎◌, inl, inr}
 use Rattle.rw_base.specs.declared.place.Span.{Span}
-use Rattle.rw_tree.specs.declared.types.Written.{Written}
 use Rattle.rw_tree.specs.declared.pattern.Pat.{Pat}
 use Rattle.rw_tree.specs.declared.clause.Alt.{Alt}
 use Rattle.rw_tree.specs.declared.decl.Side.{Side}
@@ -19,21 +18,21 @@ use Rattle.rw_grammar.specs.Types.{IsType}
 use Rattle.rw_grammar.specs.Patterns.{IsApat, a_variable_pattern, a_wildcard, a_constant_pattern, a_unit_pattern, a_pattern_group, IsPatternOver, an_apat, a_constructor_pattern, IsPattern}
 use Rattle.rw_grammar.specs.Clauses.{IsLeftSide, a_prefix, an_infix, IsClause, a_clause, IsExpression, IsLocals}
 use Rattle.rw_grammar.specs.Declarations.{IsImport, an_import, IsData, a_data, a_newtype, side_of, IsFixity, a_fixity, IsSignedName, a_signed_name, IsSignature, a_signature}
-use Rattle.rw_grammar.specs.Declarations.{IsItemOver, an_import_item, a_data_item, a_fixity_item, a_signature_item, a_clause_item}
+use Rattle.rw_grammar.specs.Declarations.{an_import_item, a_data_item, a_fixity_item, a_signature_item, a_clause_item}
 use Rattle.rw_grammar.specs.Grammar.{IsItem}
 use Rattle.rw_grammar.specs.Read.{◌>>=◌, Read, same_mark, sees}
-use Rattle.rw_grammar.specs.ReadTypes.{ends_type, begins_apat, type_at}
-use Rattle.rw_grammar.specs.ReadClauses.{ends_entry, ends_clause, opens_operator, ends_left_side, variable_name_at}
+use Rattle.rw_grammar.specs.ReadTypes.{begins_apat, type_at}
+use Rattle.rw_grammar.specs.ReadClauses.{ends_entry, opens_operator, ends_left_side, variable_name_at}
 use Rattle.rw_grammar.specs.ReadLevels.{clause_over, expression_at, locals_at}
 use Rattle.rw_grammar.specs.ReadDeclarations.{import_at, data_or_newtype_at, fixity_at, signature_at, goes_signed, begins_signed, begins_fixity, whole_item, named_item_at, item_over_at, item_at}
-use Rattle.rw_grammar.proofs.ReadExact.{bind_some, chosen, some_is, moved, is_same, same_self, seen_is, Exact}
+use Rattle.rw_grammar.proofs.ReadExact.{bind_some, chosen, moved, is_same, same_self, Exact}
 use Rattle.rw_grammar.proofs.ReadTypes.{type_level}
-use Rattle.rw_grammar.proofs.Plain.{IsPlainly, pattern_plain, apat_plain}
+use Rattle.rw_grammar.proofs.Plain.{pattern_plain, apat_plain}
 use Rattle.rw_grammar.proofs.ReadSides.{name_exact, side_follows}
 use Rattle.rw_grammar.proofs.ReadData.{data_exact}
 use Rattle.rw_grammar.proofs.ReadHeads.{import_exact, fixity_exact}
-use Rattle.rw_grammar.proofs.ReadSignatures.{TypePasses, type_passes, signature_exact}
-use Rattle.rw_grammar.proofs.ReadLocals.{EndsAll, entry_ends}
+use Rattle.rw_grammar.proofs.ReadSignatures.{type_passes, signature_exact}
+use Rattle.rw_grammar.proofs.ReadLocals.{entry_ends}
 use Rattle.rw_grammar.proofs.ReadLevels.{level, clause_level}
 
 one_of : (a b : Bool) → (a || b) ≡ true → (a ≡ true) ⊎ (b ≡ true)

@@ -1,45 +1,29 @@
 -- Signatures are read exactly.
-use Rattle.std.proofs.Common.{◌≡◌, ℕ, zero, suc, ◌<◌, ◌≤◌, Bool, true, false, not, ◌||◌, cond, List, [], ◌∷◌, length, drop, Option, Some, None, refl, sym, ap, subst, ◌∙◌, arith, ◌⊎◌, inl, inr}
+use Rattle.std.proofs.Common.{◌≡◌, ℕ, zero, suc, ◌<◌, ◌≤◌, Bool, true, false, ◌||◌, List, [], ◌∷◌, length, drop, Some, None, refl, sym, ap, subst, ◌∙◌, arith, ◌⊎◌, inl, inr}
 use Rattle.std.specs.Prelude.{codes}
 use Rattle.std.specs.Str.{bytes_eq}
 use Rattle.rw_base.specs.declared.place.Span.{Span}
 use Rattle.rw_tree.specs.declared.types.Written.{Written}
-use Rattle.rw_tree.specs.declared.pattern.Pat.{Pat}
-use Rattle.rw_tree.specs.declared.clause.Alt.{Alt}
-use Rattle.rw_tree.specs.declared.decl.Side.{Side}
 use Rattle.rw_tree.specs.declared.decl.Decl.{Decl}
 use Rattle.rw_tree.specs.declared.decl.Decl.TheVariants as d
-use Rattle.rw_grammar.specs.declared.item.Item.{Item}
-use Rattle.rw_grammar.specs.declared.item.Item.TheVariants as i
-use Rattle.rw_grammar.specs.declared.lexeme.Mark.{Mark}
 use Rattle.rw_grammar.specs.declared.lexeme.Mark.TheVariants as m
 use Rattle.rw_grammar.specs.declared.lexeme.Spot.{Spot}
 use Rattle.rw_grammar.specs.declared.lexeme.Lexeme.{Lexeme}
 use Rattle.rw_grammar.specs.declared.lexeme.Lexeme.TheVariants as t
-use Rattle.rw_grammar.specs.Lexemes.{next_spot, span_at, span_of}
+use Rattle.rw_grammar.specs.Lexemes.{next_spot, span_of}
 use Rattle.rw_grammar.specs.Lists.{IsSeparated, the_last, and_more, IsMany, no_more, one_more}
-use Rattle.rw_grammar.specs.Names.{IsVariableName, a_name, an_operator_name, IsVariableOperator, a_symbol_operator, a_named_operator}
 use Rattle.rw_grammar.specs.Types.{IsAtype, a_type_constructor, a_type_variable, a_unit_type, a_type_group, IsBtype, a_btype, IsTypeOver, no_arrow, an_arrow, IsType}
-use Rattle.rw_grammar.specs.Patterns.{IsApat, a_variable_pattern, a_wildcard, a_constant_pattern, a_unit_pattern, a_pattern_group, IsPatternOver, an_apat, a_constructor_pattern, IsPattern}
-use Rattle.rw_grammar.specs.Clauses.{IsRightSide, IsLeftSide, a_prefix, an_infix, IsClause, a_clause, IsExpression, IsLocals}
-use Rattle.rw_grammar.specs.Declarations.{IsImport, an_import, IsData, a_data, a_newtype, side_of, IsFixity, a_fixity, IsMonad, a_monad, IsContext, no_context, one_monad, some_monads, IsSignedName, a_signed_name, IsSignature, a_signature}
-use Rattle.rw_grammar.specs.Declarations.{IsItemOver, an_import_item, a_data_item, a_fixity_item, a_signature_item, a_clause_item}
-use Rattle.rw_grammar.specs.Grammar.{IsItem}
-use Rattle.rw_grammar.specs.Read.{◌>>=◌, Read, same_mark, sees, after, separated_at, variable_at}
-use Rattle.rw_grammar.specs.ReadTypes.{ends_type, begins_apat, type_at, pattern_at}
-use Rattle.rw_grammar.specs.ReadNames.{begins_op, is_plain, beyond}
-use Rattle.rw_grammar.specs.ReadClauses.{ends_entry, ends_clause, opens_operator, ends_left_side, variable_name_at}
-use Rattle.rw_grammar.specs.ReadLevels.{clause_over, expression_at, locals_at}
-use Rattle.rw_grammar.specs.ReadDeclarations.{class_name_at, import_at, data_or_newtype_at, fixity_at, monad_at, monads_at, given_context_at, begins_context, context_at, signed_name_at, signature_at, goes_signed, begins_signed, begins_fixity, whole_item, named_item_at, item_over_at, item_at}
-use Rattle.rw_grammar.proofs.ReadExact.{bind_some, chosen, some_is, moved, is_same, same_self, seen_is, after_is, after_mark, always, Exact, separated_sound, separated_read, separated_shorter, first_has}
-use Rattle.rw_grammar.proofs.ReadTypes.{type_level}
-use Rattle.rw_grammar.proofs.Plain.{beyond_opens, beyond_closes, beyond_comma, IsPlainly, pattern_plain}
-use Rattle.rw_grammar.proofs.ReadSides.{variable_is, name_exact, side_follows}
-use Rattle.rw_grammar.proofs.ReadData.{class_exact, data_exact}
+use Rattle.rw_grammar.specs.Declarations.{IsMonad, a_monad, IsContext, no_context, one_monad, some_monads, IsSignedName, a_signed_name, IsSignature, a_signature}
+use Rattle.rw_grammar.specs.Read.{Read, same_mark, sees, after, separated_at, variable_at}
+use Rattle.rw_grammar.specs.ReadTypes.{ends_type}
+use Rattle.rw_grammar.specs.ReadNames.{beyond}
+use Rattle.rw_grammar.specs.ReadClauses.{ends_entry, variable_name_at}
+use Rattle.rw_grammar.specs.ReadDeclarations.{class_name_at, monad_at, monads_at, given_context_at, begins_context, context_at, signed_name_at, signature_at}
+use Rattle.rw_grammar.proofs.ReadExact.{bind_some, chosen, moved, is_same, same_self, seen_is, after_is, after_mark, always, Exact, separated_sound, separated_read, separated_shorter}
+use Rattle.rw_grammar.proofs.Plain.{beyond_opens, beyond_closes, beyond_comma}
+use Rattle.rw_grammar.proofs.ReadSides.{variable_is, name_exact}
 use Rattle.rw_grammar.proofs.ReadImports.{class_is, class_read}
-use Rattle.rw_grammar.proofs.ReadHeads.{import_exact, fixity_exact}
 use Rattle.rw_grammar.proofs.ReadLocals.{entry_ends}
-use Rattle.rw_grammar.proofs.ReadLevels.{level, clause_level}
 
 -- ---- types before `=>`
 abbrev pub TypePasses : List Lexeme → List Lexeme → Type 0

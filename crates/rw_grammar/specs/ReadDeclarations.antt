@@ -1,5 +1,5 @@
 -- Reading declarations and items from the front of a list of tokens, as functions on lists.
-use Rattle.std.specs.Prelude.{ℕ, zero, suc, Bool, true, false, not, ◌||◌, ◌&&◌, List, [], ◌∷◌, length, drop, codes, Option, Some, None, if◌then◌else◌}
+use Rattle.std.specs.Prelude.{ℕ, zero, suc, Bool, false, not, ◌||◌, List, [], ◌∷◌, length, drop, codes, Option, Some, None, if◌then◌else◌}
 use Rattle.std.specs.Str.{bytes_eq}
 use Rattle.rw_base.specs.declared.place.Span.{Span}
 use Rattle.rw_tree.specs.declared.types.Written.{Written}
@@ -10,7 +10,6 @@ use Rattle.rw_tree.specs.declared.decl.Decl.{Decl}
 use Rattle.rw_tree.specs.declared.decl.Decl.TheVariants as d
 use Rattle.rw_grammar.specs.declared.item.Item.{Item}
 use Rattle.rw_grammar.specs.declared.item.Item.TheVariants as i
-use Rattle.rw_grammar.specs.declared.lexeme.Mark.{Mark}
 use Rattle.rw_grammar.specs.declared.lexeme.Mark.TheVariants as m
 use Rattle.rw_grammar.specs.declared.lexeme.Spot.{Spot}
 use Rattle.rw_grammar.specs.declared.lexeme.Lexeme.{Lexeme}
@@ -18,9 +17,9 @@ use Rattle.rw_grammar.specs.declared.lexeme.Lexeme.TheVariants as t
 use Rattle.rw_grammar.specs.Lexemes.{span_of}
 use Rattle.rw_grammar.specs.Declarations.{pointed, side_of, strength_of}
 use Rattle.rw_grammar.specs.Read.{◌>>=◌, Read, same_mark, sees, after, separated_at, many_at, variable_at, constructor_at, begins_variable, begins_constructor}
-use Rattle.rw_grammar.specs.ReadTypes.{begins_atype, ends_btype, ends_type, atype_at, atypes_at, type_at}
-use Rattle.rw_grammar.specs.ReadNames.{begins_op, beyond}
-use Rattle.rw_grammar.specs.ReadClauses.{variable_name_at, variable_operator_at}
+use Rattle.rw_grammar.specs.ReadTypes.{begins_atype, atype_at, atypes_at, type_at}
+use Rattle.rw_grammar.specs.ReadNames.{beyond}
+use Rattle.rw_grammar.specs.ReadClauses.{variable_name_at}
 use Rattle.rw_grammar.specs.ReadLevels.{clause_over, expression_at, locals_at}
 
 -- ---- data types

@@ -1,11 +1,10 @@
 -- Reading the frame of a program and the runs of its items, as functions on lists.
-use Rattle.std.specs.Prelude.{ℕ, zero, suc, Bool, List, [], ◌∷◌, length, drop, Option, Some, None, if◌then◌else◌}
-use Rattle.rw_grammar.specs.declared.lexeme.Mark.{Mark}
+use Rattle.std.specs.Prelude.{ℕ, zero, suc, List, [], ◌∷◌, drop, Option, Some, None, if◌then◌else◌}
 use Rattle.rw_grammar.specs.declared.lexeme.Mark.TheVariants as m
 use Rattle.rw_grammar.specs.declared.lexeme.Spot.{Spot}
 use Rattle.rw_grammar.specs.declared.lexeme.Lexeme.{Lexeme}
 use Rattle.rw_grammar.specs.declared.lexeme.Lexeme.TheVariants as t
-use Rattle.rw_grammar.specs.Read.{◌>>=◌, Read, same_mark, sees, after}
+use Rattle.rw_grammar.specs.Read.{◌>>=◌, same_mark, sees, after}
 use Rattle.rw_grammar.specs.ReadDeclarations.{module_name_at, exports_at}
 
 -- the tokens behind a header, if there is one

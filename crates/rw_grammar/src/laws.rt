@@ -1,5 +1,5 @@
 // Laws on what tokens spell: each is the contract of a function that does nothing, for callers to cite.
-ghost use Rattle.std.specs.Prelude.{◌≡◌, ℕ, true, List, Some};
+ghost use Rattle.std.specs.Prelude.{◌≡◌, ◌+◌, ℕ, true, List, Some};
 ghost use Rattle.rw_base.specs.declared.place.Span.{Span};
 ghost use Rattle.rw_tree.specs.declared.types.Written.{Written};
 ghost use Rattle.rw_tree.specs.declared.pattern.Pat.{Pat};
@@ -9,7 +9,9 @@ ghost use Rattle.rw_tree.specs.declared.clause.Local.{Local};
 ghost use Rattle.rw_grammar.specs.declared.lexeme.Lexeme.{Lexeme};
 ghost use Rattle.rw_grammar.specs.Types.{IsType};
 ghost use Rattle.rw_grammar.specs.Patterns.{IsApat, IsPattern};
-ghost use Rattle.rw_grammar.specs.Grammar.{IsItem};
+ghost use Rattle.rw_lex.specs.declared.token.Token.{Token};
+ghost use Rattle.rw_tree.specs.declared.program.Program.{Program};
+ghost use Rattle.rw_grammar.specs.Grammar.{IsItem, Spells};
 ghost use Rattle.rw_grammar.specs.ReadDeclarations.{item_at};
 ghost use Rattle.rw_grammar.specs.declared.item.Item.{Item};
 ghost use Rattle.rw_grammar.specs.Clauses.{IsLeftSide, IsClause, IsExpression, IsLocals};
@@ -72,4 +74,14 @@ pub fn items_are_read()
 /// Tokens begin with one item at most, before a semicolon or a closing brace.
 pub fn one_item()
     ensures { (n : ℕ) (tokens first second : List Lexeme) (a b : Item) → IsItem n tokens a first → ends_entry first ≡ true → IsItem n tokens b second → ends_entry second ≡ true → a ≡ b }
+{}
+
+/// Tokens spell one program at most, whatever stands inside what. Its chains of operators are not grouped.
+pub fn one_program()
+    ensures { (tokens : List Token) (a b : Program Span) → Spells tokens a → Spells tokens b → a ≡ b }
+{}
+
+/// What is an item with some levels inside is one with more.
+pub fn items_may_be_deeper()
+    ensures { (more n : ℕ) (tokens rest : List Lexeme) (item : Item) → IsItem n tokens item rest → IsItem (more + n) tokens item rest }
 {}

@@ -12,8 +12,8 @@ mod lexeme;
 
 pub use item::{Bound, Item};
 pub use laws::{
-    clauses_are_read, expressions_are_read, items_are_read, locals_are_read,
-    one_expression_and_one_block, one_item, one_type_and_one_pattern, patterns_are_read,
-    types_are_read,
+    clauses_are_read, expressions_are_read, items_are_read, items_may_be_deeper, locals_are_read,
+    one_expression_and_one_block, one_item, one_program, one_type_and_one_pattern,
+    patterns_are_read, types_are_read,
 };
 pub use lexeme::{Lexeme, Mark, Spot};
