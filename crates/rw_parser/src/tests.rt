@@ -1,8 +1,9 @@
 // Tests of what no clause says: that there is an answer with ample memory.
 
-use crate::{read_pattern, written_type};
+use crate::{number_tokens, read_pattern, written_type};
 use rw_base::{Name, Place};
 use rw_grammar::{Lexeme, Mark, Spot};
+use rw_lex::lex;
 use rw_tree::{Pat, Written};
 use std::alloc::Global;
 use std::test::Fail;
@@ -47,5 +48,24 @@ fn a_pattern_has_the_span_of_its_tokens(rt: HostRuntime) -> Result<(), Fail> {
     assert!(rt; matches!(&pat, Pat::Tuple(span, _) if span.from == 4 && span.to == 9));
     assert_eq!(rt; rest.len(), 1);
     assert_eq!(rt; read_pattern(alloc, 1, tokens.as_slice()).is_err(), true);
+    Ok(())
+}
+
+#[test]
+fn tokens_have_numbers_and_marks(rt: HostRuntime) -> Result<(), Fail> {
+    let alloc = rt.alloc();
+    let tokens = lex(alloc, b"case -> :+ +").map_err(|_| "refused")?;
+    if tokens.len() != 4 {
+        return Err("count".into());
+    }
+    let numbered = number_tokens(alloc, tokens.as_slice()).map_err(|_| "memory")?;
+    assert!(rt;
+        matches!(numbered.as_slice(), [
+        Lexeme::Mark(_, Mark::Case),
+        Lexeme::Mark(_, Mark::Arrow),
+        Lexeme::Mark(_, Mark::Unused),
+        Lexeme::Operator(last, _),
+    ] if last.number == 3)
+    );
     Ok(())
 }
