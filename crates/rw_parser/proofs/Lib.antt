@@ -1,0 +1,2 @@
+-- Lemmas on the turns of loops.
+pub mod Turns

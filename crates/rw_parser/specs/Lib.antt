@@ -1,0 +1,2 @@
+-- The words that contracts rest on.
+pub mod Given
