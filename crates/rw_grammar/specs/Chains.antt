@@ -11,7 +11,7 @@ use Rattle.rw_tree.specs.declared.decl.Decl.TheVariants.{Import, Data, Fixity, S
 use Rattle.rw_tree.specs.declared.expr.Expr.{Expr, out-Expr}
 use Rattle.rw_tree.specs.declared.expr.Expr.TheVariants as e
 use Rattle.rw_tree.specs.declared.clause.Local.TheOpen.{Expr-F}
-use Rattle.rw_tree.specs.PreludeText.{prelude}
+use Rattle.rw_prelude.specs.PreludeText.{prelude}
 use Rattle.rw_grammar.specs.Lexemes.{span_over}
 
 -- ---- fixities
