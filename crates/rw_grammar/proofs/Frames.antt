@@ -42,7 +42,7 @@ bare_read : (w : Spot) (ts : List Lexeme) → header_at (t.Mark w m.OpensBlock �
 unfolding header_at same_mark
 bare_read w ts = refl
 
-header_complete : (ts behind : List Lexeme) → IsHeader ts behind → (w : Spot) (rest : List Lexeme) → behind ≡ t.Mark w m.OpensBlock ∷ rest → header_at ts ≡ Some behind
+pub header_complete : (ts behind : List Lexeme) → IsHeader ts behind → (w : Spot) (rest : List Lexeme) → behind ≡ t.Mark w m.OpensBlock ∷ rest → header_at ts ≡ Some behind
 header_complete _ _ (no_header ts) w rest h = subst (λ z. header_at z ≡ Some z) (sym h) (bare_read w rest)
 header_complete _ _ (a_header v x ts mid behind names listing d k) w rest h =
     header_read v x ts mid behind names listing (module_exact.complete ts names mid d (exports_no_point mid listing x behind k)) (exports_runs.complete mid listing _ k (where_no_opening x behind))
@@ -82,7 +82,7 @@ brace_read : (w : Spot) (ts : List Lexeme) → run_at 0 (t.Mark w m.ClosesBlock 
 unfolding same_mark
 brace_read w ts = refl
 
-run_read : {d : ℕ} {ts run : List Lexeme} {end : Lexeme} {rest : List Lexeme} → IsRun d ts run end rest → run_at d ts ≡ Some (run, (end, rest))
+pub run_read : {d : ℕ} {ts run : List Lexeme} {end : Lexeme} {rest : List Lexeme} → IsRun d ts run end rest → run_at d ts ≡ Some (run, (end, rest))
 run_read (ends_by_semicolon w rest) = semicolon_read w rest
 run_read (ends_by_brace w rest) = brace_read w rest
 run_read (opens_braces d w ts run rest end r) = opens_read d w ts ∙ ap (run_before (t.Mark w m.OpensBlock)) (run_read r)
@@ -96,11 +96,11 @@ one_run p q a b = some_is p q (sym (run_read a) ∙ run_read b)
 closing : (p q : Run) → p ≡ q → sees m.ClosesBlock (p.1.0 ∷ []) ≡ sees m.ClosesBlock (q.1.0 ∷ [])
 closing p q e = ap (λ (z : Run). sees m.ClosesBlock (z.1.0 ∷ [])) e
 
-brace_closes : (w : Spot) → sees m.ClosesBlock (t.Mark w m.ClosesBlock ∷ []) ≡ true
+pub brace_closes : (w : Spot) → sees m.ClosesBlock (t.Mark w m.ClosesBlock ∷ []) ≡ true
 unfolding same_mark
 brace_closes w = refl
 
-semicolon_stays : (w : Spot) → sees m.ClosesBlock (t.Mark w m.Semicolon ∷ []) ≡ false
+pub semicolon_stays : (w : Spot) → sees m.ClosesBlock (t.Mark w m.Semicolon ∷ []) ≡ false
 unfolding same_mark
 semicolon_stays w = refl
 
@@ -123,7 +123,7 @@ one_frame (a_frame w ts rest rs h r) (a_frame v us behind qs k s) =
     one_runs r (subst (λ z. IsRuns z qs) (sym (ap (drop 1) e)) s)
 
 -- ---- items
-abbrev AllEnd : List (List Lexeme × Lexeme) → Type 0
+abbrev pub AllEnd : List (List Lexeme × Lexeme) → Type 0
 AllEnd [] = Unit {0}
 AllEnd (r ∷ rs) = (ends_entry (r.1 ∷ []) ≡ true) × AllEnd rs
 
@@ -139,15 +139,15 @@ runs_end : {ts : List Lexeme} {rs : List (List Lexeme × Lexeme)} → IsRuns ts 
 runs_end (the_last_run w ts run r) = (brace_ends w, tt)
 runs_end (another_run w ts run rest others r k) = (semicolon_ends w, runs_end k)
 
-frame_ends : {ts : List Lexeme} {rs : List (List Lexeme × Lexeme)} → IsFrame ts rs → AllEnd rs
+pub frame_ends : {ts : List Lexeme} {rs : List (List Lexeme × Lexeme)} → IsFrame ts rs → AllEnd rs
 frame_ends (a_frame w ts rest rs h r) = runs_end r
 
 -- nothing is no item
-no_item : {A : Type 0} (n : ℕ) (end : Lexeme) (item : Item) → IsItem n (end ∷ []) item (end ∷ []) → A
+pub no_item : {A : Type 0} (n : ℕ) (end : Lexeme) (item : Item) → IsItem n (end ∷ []) item (end ∷ []) → A
 no_item n end item d = let h = (item_exact n).shorter (end ∷ []) item (end ∷ []) d in absurd (omega arith)
 
 -- at two depths
-one_item_of : (n k : ℕ) (ts rest : List Lexeme) (a b : Item) → IsItem n ts a rest → IsItem k ts b rest → ends_entry rest ≡ true → a ≡ b
+pub one_item_of : (n k : ℕ) (ts rest : List Lexeme) (a b : Item) → IsItem n ts a rest → IsItem k ts b rest → ends_entry rest ≡ true → a ≡ b
 one_item_of n k ts rest a b x y s =
     let p : k + n ≡ n + k = omega arith in
     ap (λ (z : Item × List Lexeme). z.0) (one_front (item_exact (k + n)) ts (a, rest) (b, rest) (item_deeper k n (k + n) refl ts a rest x) s (item_deeper n k (k + n) p ts b rest y) s)

@@ -17,3 +17,18 @@ pub mod ReadSignatures
 pub mod ReadItems
 pub mod Deeper
 pub mod Frames
+-- What callers cite.
+pub mod Entries
+pub mod FramesOf
+pub mod Narrow
+pub mod ReadRuns
+pub mod ReadProgram
+pub mod ProgramTurns
+pub mod Joined
+pub mod Deep
+pub mod Shallow
+pub mod Alike
+pub mod AlikeExpressions
+pub mod Enough
+pub mod Outcome
+pub mod Examples

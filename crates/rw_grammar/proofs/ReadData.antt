@@ -49,7 +49,7 @@ parameter_begins _ _ _ (a_parameter w name rest) = refl
 abbrev no_variable : List Lexeme → Bool
 no_variable ts = not (begins_variable ts)
 
-parameters_runs : Runs parameters_at (IsMany IsParameter) no_variable
+pub parameters_runs : Runs parameters_at (IsMany IsParameter) no_variable
 unfolding parameters_at
 parameters_runs =
     many_runs begins_variable parameter_at IsParameter always (record { sound = parameter_sound; complete = parameter_complete; shorter = parameter_shorter }) parameter_begins (λ ts b. refl) no_variable (λ rest h. not_true _ h) (λ rest h. refl)

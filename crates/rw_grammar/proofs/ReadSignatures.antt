@@ -107,7 +107,7 @@ monad_complete _ _ _ (a_monad v w class name rest b) s = rw (class_read v class 
 monad_shorter : (ts : List Lexeme) (a : List ℕ) (rest : List Lexeme) → IsMonad ts a rest → length rest < length ts
 monad_shorter _ _ _ (a_monad v w class name rest b) = omega arith
 
-monad_exact : Exact monad_at IsMonad always
+pub monad_exact : Exact monad_at IsMonad always
 monad_exact = record { sound = monad_sound; complete = monad_complete; shorter = monad_shorter }
 
 monad_stands : (ts : List Lexeme) (a : List ℕ) (rest : List Lexeme) → IsMonad ts a rest → (beyond ts ≡ beyond rest) × (sees m.Opens ts ≡ false)
@@ -188,7 +188,7 @@ signed_complete _ _ _ (a_signed_name ts rest w name x) s = signed_read ts rest w
 signed_shorter : (ts : List Lexeme) (a : List ℕ) (rest : List Lexeme) → IsSignedName ts a rest → length rest < length ts
 signed_shorter _ _ _ (a_signed_name ts rest w name x) = name_exact.shorter ts (w, name) rest x
 
-signed_exact : Exact signed_name_at IsSignedName always
+pub signed_exact : Exact signed_name_at IsSignedName always
 signed_exact = record { sound = signed_sound; complete = signed_complete; shorter = signed_shorter }
 
 colons_no_comma : (w : Spot) (rest : List Lexeme) → sees m.Comma (t.Mark w m.Colons ∷ rest) ≡ false

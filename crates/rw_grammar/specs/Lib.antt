@@ -21,3 +21,7 @@ pub mod ReadClauses
 pub mod ReadLevels
 pub mod ReadDeclarations
 pub mod ReadProgram
+pub mod Joined
+-- How deep trees are, as readers bound it.
+pub mod Frames
+pub mod Shallow

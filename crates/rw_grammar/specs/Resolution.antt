@@ -1,5 +1,5 @@
 -- Programs with their chains grouped, and which declaration has none or is too deep (Haskell 2010 Report, section 10.6).
-use Rattle.std.specs.Prelude.{ℕ, ◌+◌, ◌≤◌, ◌<◌, List, [], ◌∷◌}
+use Rattle.std.specs.Prelude.{◌≡◌, ℕ, ◌+◌, ◌≤◌, ◌<◌, Bool, true, false, List, [], ◌∷◌}
 use Rattle.rw_base.specs.declared.place.Place.{Place}
 use Rattle.rw_base.specs.declared.place.Span.{Span}
 use Rattle.rw_tree.specs.declared.types.Written.{Written}
@@ -59,9 +59,17 @@ declaration_span (Fixity span at n names) = span
 declaration_span (Sig span names type) = span
 declaration_span (Fun span name rows) = span
 
+-- a function's items are its clauses
+abbrev pub is_function : Decl Span → Bool
+is_function (Import span name) = false
+is_function (Data span made) = false
+is_function (Fixity span at n names) = false
+is_function (Sig span names type) = false
+is_function (Fun span name rows) = true
+
 -- the first item that is broken so stands at this place: a clause is an item of its own
 pub data FirstDeclarationBroken (strength : List ℕ → Strength) : List (Decl Span) → Place → Type 0 where
   this_clause : (x : Span) (name : List ℕ) (rows : List (Alt Span)) (decls : List (Decl Span)) (at : Place) → FirstRowBroken strength rows at → FirstDeclarationBroken strength (d.Fun x name rows ∷ decls) at
-  this_declaration : (a : Decl Span) (decls : List (Decl Span)) → IsDeclarationResolved strength a a → max_levels < declaration_levels (declaration (λ span. span) a)
+  this_declaration : (a : Decl Span) (decls : List (Decl Span)) → is_function a ≡ false → max_levels < declaration_levels (declaration (λ span. span) a)
       → FirstDeclarationBroken strength (a ∷ decls) (declaration_span a).first
   later_declaration : (a b : Decl Span) (decls : List (Decl Span)) (at : Place) → IsDeclarationResolved strength a b → IsShallow b → FirstDeclarationBroken strength decls at → FirstDeclarationBroken strength (a ∷ decls) at

@@ -23,8 +23,8 @@ mutual
     constructor_resolved : (x : Span) (name : List ℕ) → IsResolved strength (e.Con x name) (e.Con x name)
     application_resolved : (x : Span) (a b : Expr Span) (parts others : List (Expr Span)) → IsResolved strength a b → AreResolved strength parts others → IsResolved strength (e.Apply x a parts) (e.Apply x b others)
     tuple_resolved : (x : Span) (parts others : List (Expr Span)) → AreResolved strength parts others → IsResolved strength (e.Tuple x parts) (e.Tuple x others)
-    chain_resolved : (x : Span) (operands operators others : List (Expr Span)) (tree : Expr Span) → AreResolved strength operands others → IsGrouped strength others operators tree
-        → IsResolved strength (e.Chain x operands operators) tree
+    chain_resolved : (x : Span) (operands operators others between : List (Expr Span)) (tree : Expr Span) → AreResolved strength operands others → AreResolved strength operators between
+        → IsGrouped strength others between tree → IsResolved strength (e.Chain x operands operators) tree
     lambda_resolved : (x : Span) (pats : List (Pat Span)) (a b : Expr Span) → IsResolved strength a b → IsResolved strength (e.Lambda x pats a) (e.Lambda x pats b)
     let_resolved : (x : Span) (locals others : List (Local Span)) (a b : Expr Span) → AreLocalsResolved strength locals others → IsResolved strength a b → IsResolved strength (e.Let x locals a) (e.Let x others b)
     if_resolved : (x : Span) (a b c d f g : Expr Span) → IsResolved strength a b → IsResolved strength c d → IsResolved strength f g → IsResolved strength (e.If x a c f) (e.If x b d g)

@@ -1,5 +1,6 @@
 // Laws on what tokens spell: each is the contract of a function that does nothing, for callers to cite.
-ghost use Rattle.std.specs.Prelude.{◌≡◌, ◌+◌, ℕ, true, List, Some};
+ghost use Rattle.std.specs.Prelude.{◌≡◌, ◌⊎◌, ◌+◌, ◌≤◌, ◌<◌, ℕ, true, List, [], length, Some, None, Ok, Err};
+ghost use Rattle.rw_base.specs.declared.place.Place.{Place};
 ghost use Rattle.rw_base.specs.declared.place.Span.{Span};
 ghost use Rattle.rw_tree.specs.declared.types.Written.{Written};
 ghost use Rattle.rw_tree.specs.declared.pattern.Pat.{Pat};
@@ -11,7 +12,21 @@ ghost use Rattle.rw_grammar.specs.Types.{IsType};
 ghost use Rattle.rw_grammar.specs.Patterns.{IsApat, IsPattern};
 ghost use Rattle.rw_lex.specs.declared.token.Token.{Token};
 ghost use Rattle.rw_tree.specs.declared.program.Program.{Program};
-ghost use Rattle.rw_grammar.specs.Grammar.{IsItem, Spells};
+ghost use Rattle.rw_tree.specs.declared.clause.Local.TheVariants as l;
+ghost use Rattle.rw_tree.specs.declared.decl.Decl.{Decl};
+ghost use Rattle.rw_tree.specs.declared.decl.Decl.TheVariants as d;
+ghost use Rattle.rw_tree.specs.Declarations.{declaration};
+ghost use Rattle.rw_grammar.specs.declared.item.Bound.{Bound};
+ghost use Rattle.rw_grammar.specs.Chains.{Strength, strength_of_name};
+ghost use Rattle.rw_grammar.specs.Clauses.{local_groups, locals_of};
+ghost use Rattle.rw_grammar.specs.Frames.{frames_of_row, frames_of_declaration};
+ghost use Rattle.rw_grammar.specs.Grammar.{IsFrame, IsItem, IsNotOfTheGrammar, Spells, declarations_of, item_groups, whole_run};
+ghost use Rattle.rw_grammar.specs.Joined.{finished, none_open, with_bounds, with_items};
+ghost use Rattle.rw_grammar.specs.Levels.{declaration_levels, max_levels};
+ghost use Rattle.rw_grammar.specs.ReadProgram.{frame_at, item_of, items_at, program_at};
+ghost use Rattle.rw_grammar.specs.Resolution.{FirstDeclarationBroken, IsDeclarationResolved, IsProgramResolved, IsRowBroken};
+ghost use Rattle.rw_grammar.specs.Shallow.{first_deep, item_place, of_items, shallow};
+ghost use Rattle.rw_grammar.specs.Lexemes.{next_spot};
 ghost use Rattle.rw_grammar.specs.ReadDeclarations.{item_at};
 ghost use Rattle.rw_grammar.specs.declared.item.Item.{Item};
 ghost use Rattle.rw_grammar.specs.Clauses.{IsLeftSide, IsClause, IsExpression, IsLocals};
@@ -84,4 +99,61 @@ pub fn one_program()
 /// What is an item with some levels inside is one with more.
 pub fn items_may_be_deeper()
     ensures { (more n : ℕ) (tokens rest : List Lexeme) (item : Item) → IsItem n tokens item rest → IsItem (more + n) tokens item rest }
+{}
+
+/// An item needs no more levels inside than it has tokens.
+pub fn items_need_no_more()
+    ensures { (k n : ℕ) (tokens rest : List Lexeme) (item : Item) → length tokens ≤ n → IsItem k tokens item rest → IsItem n tokens item rest }
+{}
+
+/// A reader with a level for each token reads what it would read with any more.
+pub fn levels_are_enough()
+    ensures types { (n : ℕ) (tokens : List Lexeme) → length tokens ≤ n → type_at n tokens ≡ type_at (length tokens) tokens }
+    ensures patterns { (n : ℕ) (tokens : List Lexeme) → length tokens ≤ n → pattern_at n tokens ≡ pattern_at (length tokens) tokens }
+    ensures expressions { (n : ℕ) (tokens : List Lexeme) → length tokens ≤ n → expression_at n tokens ≡ expression_at (length tokens) tokens }
+    ensures blocks { (n : ℕ) (tokens : List Lexeme) → length tokens ≤ n → locals_at n tokens ≡ locals_at (length tokens) tokens }
+    ensures items { (n : ℕ) (tokens : List Lexeme) → length tokens ≤ n → item_at n tokens ≡ item_at (length tokens) tokens }
+{}
+
+/// Reading from left to right gives exactly the runs of items between the outer braces.
+pub fn frames_are_read()
+    ensures framed { (tokens : List Lexeme) (runs : List (List Lexeme × Lexeme)) → frame_at tokens ≡ Some runs → IsFrame tokens runs }
+    ensures read { (tokens : List Lexeme) (runs : List (List Lexeme × Lexeme)) → IsFrame tokens runs → frame_at tokens ≡ Some runs }
+{}
+
+/// Reading from left to right gives exactly the program that tokens spell, and exactly the place where they spell none.
+pub fn programs_are_read()
+    ensures spelled { (n : ℕ) (tokens : List Token) (program : Program Span) → program_at n tokens ≡ Ok program → Spells tokens program }
+    ensures read { (n : ℕ) (tokens : List Token) (program : Program Span) → length tokens ≤ n → Spells tokens program → program_at n tokens ≡ Ok program }
+    ensures broken { (n : ℕ) (tokens : List Token) (at : Place) → length tokens ≤ n → program_at n tokens ≡ Err at → IsNotOfTheGrammar tokens at }
+    ensures refused { (n : ℕ) (tokens : List Token) (at : Place) → length tokens ≤ n → IsNotOfTheGrammar tokens at → program_at n tokens ≡ Err at }
+{}
+
+/// Tokens either spell a program or do not, and where they do not, one place is named.
+pub fn one_place()
+    ensures either { (tokens : List Token) → ((program : Program Span) × Spells tokens program) ⊎ ((at : Place) × IsNotOfTheGrammar tokens at) }
+    ensures apart { (tokens : List Token) (program : Program Span) (at : Place) → Spells tokens program → IsNotOfTheGrammar tokens at → ⊥ }
+    ensures place { (tokens : List Token) (a b : Place) → IsNotOfTheGrammar tokens a → IsNotOfTheGrammar tokens b → a ≡ b }
+{}
+
+/// Joining neighbouring clauses of one name from left to right gives the declarations that the grammar names.
+pub fn clauses_are_joined()
+    ensures locals { (entries : List Bound) → finished l.Fun (with_bounds ([], none_open) entries) ≡ locals_of (local_groups entries) }
+    ensures declarations { (items : List Item) → finished d.Fun (with_items ([], none_open) items) ≡ declarations_of (item_groups items) }
+{}
+
+/// A declaration has more levels, once its chains are grouped, than frames; so a clause with more frames than levels are
+/// allowed has no tree.
+pub fn deep_trees_are_broken()
+    ensures declarations { (strength : List ℕ → Strength) (a b : Decl Span) → IsDeclarationResolved strength a b → frames_of_declaration a < declaration_levels (declaration (λ span. span) b) }
+    ensures clauses { (strength : List ℕ → Strength) (row : Alt Span) → max_levels < frames_of_row row → IsRowBroken strength row }
+{}
+
+/// Where some items are too deep, what is kept of the program tells the place that is named: that of what is broken
+/// there, or else that of the first item that is too deep.
+pub fn deep_items_are_named()
+    ensures none { (items : List Item) → first_deep items ≡ None → shallow items ≡ items }
+    ensures earlier { (n : ℕ) (runs : List (List Lexeme × Lexeme)) (items : List Item) (at place : Place) → items_at n runs ≡ Ok items → first_deep items ≡ Some at → FirstDeclarationBroken (strength_of_name (of_items (shallow items)).decls) (of_items (shallow items)).decls place → FirstDeclarationBroken (strength_of_name (of_items items).decls) (of_items items).decls place }
+    ensures there { (n : ℕ) (runs : List (List Lexeme × Lexeme)) (items : List Item) (at : Place) (program : Program Span) → items_at n runs ≡ Ok items → first_deep items ≡ Some at → IsProgramResolved (of_items (shallow items)) program → FirstDeclarationBroken (strength_of_name (of_items items).decls) (of_items items).decls at }
+    ensures place { (n : ℕ) (run : List Lexeme) (end : Lexeme) (item : Item) → item_of n (run, end) ≡ Some item → item_place item ≡ (next_spot (whole_run run end)).place }
 {}

@@ -12,8 +12,9 @@ mod lexeme;
 
 pub use item::{Bound, Item};
 pub use laws::{
-    clauses_are_read, expressions_are_read, items_are_read, items_may_be_deeper, locals_are_read,
-    one_expression_and_one_block, one_item, one_program, one_type_and_one_pattern,
-    patterns_are_read, types_are_read,
+    clauses_are_joined, clauses_are_read, deep_items_are_named, deep_trees_are_broken,
+    expressions_are_read, frames_are_read, items_are_read, items_may_be_deeper, items_need_no_more,
+    levels_are_enough, locals_are_read, one_expression_and_one_block, one_item, one_place,
+    one_program, one_type_and_one_pattern, patterns_are_read, programs_are_read, types_are_read,
 };
 pub use lexeme::{Lexeme, Mark, Spot};
