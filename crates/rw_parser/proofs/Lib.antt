@@ -1,2 +1,0 @@
--- Lemmas on the turns of loops.
-pub mod Turns

@@ -1,2 +1,0 @@
--- The words that contracts rest on.
-pub mod Given
