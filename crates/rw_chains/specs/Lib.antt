@@ -1,0 +1,6 @@
+-- What functions inside promise each other, and laws that callers cite.
+pub mod Grouping
+pub mod Resolving
+pub mod Fixities
+pub mod Given
+pub mod Sizes
