@@ -1,0 +1,4 @@
+-- The nodes of lists of trees and of each variant of a tree, and what a step of the walk keeps.
+pub mod Lists
+mod Variants
+mod Steps
