@@ -1,0 +1,6 @@
+-- The words that public contracts rest on.
+pub mod Values
+pub mod Matching
+pub mod Coverage
+-- What functions inside promise each other.
+pub mod Columns

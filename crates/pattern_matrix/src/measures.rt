@@ -1,0 +1,59 @@
+// What is seen of rows at a glance: how long the longest is, whether one has no patterns, and how many constructors the
+// type of a column has.
+ghost use Rattle.std.specs.Prelude.{◌≡◌, ◌+◌, ◌<◌, ℕ, suc, MatchOption, IsTrue};
+ghost use Rattle.pattern_matrix.specs.Matching.{plain_row, plain_rows};
+ghost use Rattle.pattern_matrix.specs.Columns.{AreWithin, IsReached, HasEmpty, cell_at, cell_count, column_count as count_of};
+
+use crate::Pattern;
+use sqlite_items::Items;
+
+// The number of patterns in the longest row, 0 without rows.
+pub fn widest(rows: &[Items<Pattern>]) -> usize
+    ensures within { AreWithin result (plain_rows rows.now) }
+    ensures reached { 0 < result → IsReached result (plain_rows rows.now) }
+{
+    let mut width = 0;
+    for row in rows {
+        if row.len() > width {
+            width = row.len();
+        }
+    }
+    width
+}
+
+// Whether some row has no patterns.
+pub fn has_empty(rows: &[Items<Pattern>]) -> bool
+    ensures { IsTrue result → HasEmpty (plain_rows rows.now) }
+{
+    for row in rows {
+        if row.is_empty() {
+            return true;
+        }
+    }
+    false
+}
+
+// How many constructors the type of this column has, if a constructor stands there in the row.
+fn among_at(row: &[Pattern], column: usize) -> Option<usize>
+    ensures { MatchOption result ((others : ℕ) → cell_count (cell_at column (plain_row row.now)) others ≡ others) (λ among. (others : ℕ) → cell_count (cell_at column (plain_row row.now)) others ≡ among) }
+{
+    if column >= row.len() {
+        return None;
+    }
+    match &row[column] {
+        Pattern::Any => None,
+        Pattern::Con(_, among, _) => Some(*among),
+    }
+}
+
+// How many constructors the type of this column has, by the first row with a constructor there: 0 where there is none.
+pub fn column_count(rows: &[Items<Pattern>], column: usize) -> usize
+    ensures { result ≡ count_of column (plain_rows rows.now) }
+{
+    for row in rows {
+        if let Some(among) = among_at(row.as_slice(), column) {
+            return among;
+        }
+    }
+    0
+}
