@@ -1,1 +1,3 @@
+-- Lemmas about lines.
 mod Cutting
+mod Encoded

@@ -1,2 +1,3 @@
 -- The words that public contracts rest on.
 pub mod Traces
+pub mod TraceValues
