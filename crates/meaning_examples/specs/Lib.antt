@@ -1,0 +1,2 @@
+-- Devices, and the values that go in and out.
+pub mod Devices

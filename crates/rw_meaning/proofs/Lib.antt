@@ -1,0 +1,5 @@
+-- Lemmas about the definitions.
+pub mod Grows
+pub mod Steps
+pub mod Traces
+pub mod Lasting

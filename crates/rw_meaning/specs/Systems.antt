@@ -1,0 +1,53 @@
+-- The system that the body of `start` is: devices side by side, and devices whose outputs are fed back. `par` and `refold` stand only as heads
+-- of applications on the way to a leaf.
+use Rattle.std.specs.Prelude.{List, [], ◌∷◌, codes, Option, Some, None, if◌then◌else◌}
+use Rattle.rw_scoping.specs.declared.binding.Operation.TheVariants.{Par, Refold}
+use Rattle.rw_scoping.specs.declared.binding.Binding.{Binding}
+use Rattle.rw_scoping.specs.declared.binding.Binding.TheVariants.{Operation as Operates}
+use Rattle.rw_scoping.specs.declared.binding.Bound.{Bound}
+use Rattle.rw_scoping.specs.Names.{is_among}
+use Rattle.rw_tree.specs.Trees.{Expression, variable, application, Expressions, no_expressions, more_expressions, Alternative, alternative, plain_side, LocalBindings}
+use Rattle.rw_tree.specs.Declarations.{Declaration, function_declaration}
+
+-- a system of expressions: a device by itself; two side by side; one whose output is seen through the first expression, and whose input is what the
+-- second makes of that output and an outer input
+pub data System : Type 0 where
+  leaf : Expression Bound → System
+  side_by_side : System → System → System
+  fed_back : Expression Bound → Expression Bound → System → System
+
+-- what a name makes of these arguments, each with its own system; `whole` is the application
+abbrev pub operated : Expression Bound → Option Binding → List (Expression Bound × System) → System
+operated whole (Some (Operates Par)) (d ∷ e ∷ []) = side_by_side d.1 e.1
+operated whole (Some (Operates Refold)) (f ∷ g ∷ d ∷ []) = fed_back f.0 g.0 d.1
+operated whole _ arguments = leaf whole
+
+-- the system of an expression: `whole` is it, and `e` what is left of it when these arguments are taken off
+abbrev mutual
+  pub system_with : Expression Bound → Expression Bound → List (Expression Bound × System) → System
+  system_with whole (application a head parts) arguments = system_with whole head (with_systems parts arguments)
+  system_with whole (variable a x) arguments = operated whole a.bound arguments
+  system_with whole _ arguments = leaf whole
+
+  -- arguments, each with its own system, before others
+  pub with_systems : Expressions Bound → List (Expression Bound × System) → List (Expression Bound × System)
+  with_systems no_expressions others = others
+  with_systems (more_expressions e es) others = (e, system_with e e []) ∷ with_systems es others
+
+abbrev pub system_of : Expression Bound → System
+system_of e = system_with e e []
+
+-- the body of `start`: one clause without patterns and guards; with what is bound after its `where`
+pub record Body : Type 0 where
+  pub expression : Expression Bound
+  pub wheres : LocalBindings Bound
+
+abbrev pub body_of : List (Alternative Bound) → Option Body
+body_of (alternative a [] (plain_side e) wheres ∷ []) = Some (record { expression = e; wheres = wheres })
+body_of _ = None
+
+-- that of the first declaration of `start`
+abbrev pub start_of : List (Declaration Bound) → Option Body
+start_of [] = None
+start_of (function_declaration a x clauses ∷ ds) = if is_among x (codes "start" ∷ []) then body_of clauses else start_of ds
+start_of (d ∷ ds) = start_of ds

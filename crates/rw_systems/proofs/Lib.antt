@@ -1,0 +1,3 @@
+-- Lemmas about heads, arguments and bodies.
+mod Heads
+mod Bodies
