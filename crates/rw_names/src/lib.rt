@@ -22,3 +22,6 @@ mod variables;
 pub use bound::unbound;
 pub use inside::{declared_twice, repeated_in_functions};
 pub use pairs::unpaired;
+
+#[cfg(test)]
+mod tests;
