@@ -6,20 +6,13 @@ use Rattle.rw_base.specs.declared.place.Place.{Place}
 use Rattle.rw_tree.specs.declared.pattern.Pat.{Pat}
 use Rattle.rw_tree.specs.declared.clause.Local.{Local}
 use Rattle.rw_tree.specs.Patterns.{Pattern, pattern, pattern_parts, patterns}
-use Rattle.rw_tree.specs.Trees.{LocalBinding, LocalBindings, local_signature, local_function, local_pattern, more_bindings, binding_parts, local_binding}
+use Rattle.rw_tree.specs.Trees.{binding_parts, local_binding}
 use Rattle.rw_scoping.specs.Names.{Bytes, repeated}
 use Rattle.rw_scoping.specs.Bindings.{parts_variables, pattern_variables, row_variables, binding_variables, group_variables}
-use Rattle.rw_scoping.specs.Scope.{group_signatures}
-use Rattle.rw_names.specs.Signatures.{signature_of}
 
 pub parts_variables-listed : {X : Type 0} (ps : List (Pattern X)) → parts_variables (pattern_parts ps) ≡ row_variables ps
 parts_variables-listed [] = refl
 parts_variables-listed (p ∷ ps) = ap (λ vs. pattern_variables p ++ vs) (parts_variables-listed ps)
-
-pub group_signatures-more : (b : LocalBinding Span) (bs : LocalBindings Span) → group_signatures (more_bindings b bs) ≡ signature_of b ++ group_signatures bs
-group_signatures-more (local_signature a x type) bs = refl
-group_signatures-more (local_function a x clauses) bs = refl
-group_signatures-more (local_pattern a row) bs = refl
 
 -- one pattern more of several
 pub row_seen : (pats : List (Pat Span)) (i : ℕ) (p : Pat Span) (seen now : List Bytes) (old new whole : List Place) (rest : List (Bytes × Span)) → i < length pats → p ≡ get_or pats i p
@@ -41,17 +34,6 @@ binding_seen locals i b seen now old new whole within read step so_far =
     let next : drop i locals ≡ b ∷ drop (i + 1) locals = grind (arith, common_steps) in
     step (group_variables (binding_parts (map (local_binding (λ a. a)) (drop (i + 1) locals))))
     ∙ ap (λ bs. old ++ repeated seen (group_variables (binding_parts (map (local_binding (λ a. a)) bs)))) (sym next) ∙ so_far
-
--- one declaration more of a group, of whose signatures it may be one
-pub signature_seen : (locals : List (Local Span)) (i : ℕ) (b : Local Span) (seen now : List Bytes) (old new whole : List Place) → i < length locals → b ≡ get_or locals i b
-    → ((after : List (Bytes × Span)) → new ++ repeated now after ≡ old ++ repeated seen (signature_of (local_binding (λ a. a) b) ++ after))
-    → old ++ repeated seen (group_signatures (binding_parts (map (local_binding (λ a. a)) (drop i locals)))) ≡ whole
-    → new ++ repeated now (group_signatures (binding_parts (map (local_binding (λ a. a)) (drop (i + 1) locals)))) ≡ whole
-signature_seen locals i b seen now old new whole within read step so_far =
-    let next : drop i locals ≡ b ∷ drop (i + 1) locals = grind (arith, common_steps) in
-    let left = binding_parts (map (local_binding (λ a. a)) (drop (i + 1) locals)) in
-    step (group_signatures left) ∙ ap (λ vs. old ++ repeated seen vs) (sym (group_signatures-more (local_binding (λ a. a) b) left))
-    ∙ ap (λ bs. old ++ repeated seen (group_signatures (binding_parts (map (local_binding (λ a. a)) bs)))) (sym next) ∙ so_far
 
 -- none is left
 pub row_end : (pats : List (Pat Span)) (i : ℕ) (seen : List Bytes) (old whole : List Place) (rest : List (Bytes × Span)) → length pats ≤ i

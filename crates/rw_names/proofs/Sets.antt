@@ -20,11 +20,11 @@ or_assoc : (a b c : Bool) → ((a || b) || c) ≡ (a || (b || c))
 or_assoc true b c = refl
 or_assoc false b c = refl
 
-pub is_among-append : (x : Bytes) (a b : List Bytes) → is_among x (a ++ b) ≡ (is_among x a || is_among x b)
+is_among-append : (x : Bytes) (a b : List Bytes) → is_among x (a ++ b) ≡ (is_among x a || is_among x b)
 is_among-append x [] b = refl
 is_among-append x (y ∷ a) b = ap (λ v. same_name x y || v) (is_among-append x a b) ∙ sym (or_assoc (same_name x y) (is_among x a) (is_among x b))
 
-pub names_of-append : {X : Type 0} (us vs : List (Bytes × X)) → names_of (us ++ vs) ≡ names_of us ++ names_of vs
+names_of-append : {X : Type 0} (us vs : List (Bytes × X)) → names_of (us ++ vs) ≡ names_of us ++ names_of vs
 names_of-append [] vs = refl
 names_of-append (u ∷ us) vs = ap (λ r. u.0 ∷ r) (names_of-append us vs)
 

@@ -7,10 +7,10 @@ ghost use Rattle.rw_scoping.specs.Nodes.{expression_node, group_node, program_no
 ghost use Rattle.rw_scoping.specs.Scope.{declared_twice as twice_in, repeated_in_node};
 ghost use Rattle.rw_nodes.specs.Plain.{plain_node};
 
+use crate::top::repeated_at_top;
 use crate::variables::{see_bindings, see_one_pattern, see_one_row, see_signatures};
 use rw_base::{OutOfMemory, Place, Span};
 use rw_nodes::{Node, nodes};
-use rw_scope::repeated_at_top;
 use rw_tree::{Expr, Local, Program, Stmt};
 use std::alloc::Global;
 

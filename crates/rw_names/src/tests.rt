@@ -1,6 +1,9 @@
 // Small programs with a fault on a line of its own each, found with ample memory.
 
-use crate::{declared_twice, repeated_in_functions, unbound, unpaired};
+use crate::{
+    declared_twice, earliest, repeated_at_top, repeated_in_functions, unbound, unknown_modules,
+    unpaired,
+};
 use rw_base::{Name, OutOfMemory, Place, Span};
 use rw_scoping::Bound;
 use rw_tree::{
@@ -310,5 +313,41 @@ fn names_are_bound_to_nothing(rt: HostRuntime) -> Result<(), Fail> {
     let bound = bound(rt.alloc()).map_err(|_| "memory")?;
     let places = unbound(rt.alloc(), &program, &bound).map_err(|_| "memory")?;
     assert!(rt; are_on(places.as_slice(), &[1, 2, 3, 4, 5, 6, 7, 8]));
+    Ok(())
+}
+
+/// The import of a module on this line.
+fn import(alloc: Global, line: u32, module: &[u8]) -> Result<Decl<Span>, OutOfMemory> {
+    Ok(Decl::Import(on(line), Name::from_slice(alloc, module)?))
+}
+
+/// A function without clauses on this line.
+fn empty(alloc: Global, line: u32, name: &[u8]) -> Result<Decl<Span>, OutOfMemory> {
+    let name = Name::from_slice(alloc, name)?;
+    Ok(Decl::Fun(on(line), name, Items::new(alloc)))
+}
+
+/// Imports on lines 1 and 2, of which the second is of an unknown module, and on lines 3 to 5 the functions `x`, `get` and
+/// `x`.
+fn top(alloc: Global) -> Result<Program<Span>, OutOfMemory> {
+    let mut decls = two(
+        alloc,
+        import(alloc, 1, b"ReWire")?,
+        import(alloc, 2, b"Data.Bits")?,
+    )?;
+    decls.push(empty(alloc, 3, b"x")?)?;
+    decls.push(empty(alloc, 4, b"get")?)?;
+    decls.push(empty(alloc, 5, b"x")?)?;
+    Ok(program(alloc, decls))
+}
+
+#[test]
+fn modules_are_unknown_and_operations_are_declared(rt: HostRuntime) -> Result<(), Fail> {
+    let program = top(rt.alloc()).map_err(|_| "memory")?;
+    let modules = unknown_modules(rt.alloc(), &program).map_err(|_| "memory")?;
+    assert!(rt; are_on(modules.as_slice(), &[2]));
+    let names = repeated_at_top(rt.alloc(), program.decls.as_slice()).map_err(|_| "memory")?;
+    assert!(rt; are_on(names.as_slice(), &[4, 5]));
+    assert_eq!(rt; earliest(names.as_slice()), Some(on(4).first));
     Ok(())
 }

@@ -1,2 +1,0 @@
--- What is repeated behind names that were seen.
-pub mod Behind
