@@ -1,0 +1,8 @@
+-- Lemmas about places, groups, their lists and values.
+mod Places
+mod Groups
+mod LeftOver
+mod Whole
+mod Answer
+mod Found
+mod Forms
