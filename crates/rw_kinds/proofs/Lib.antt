@@ -1,0 +1,9 @@
+-- Tables, uses of variables, and types by their heads.
+pub mod Basics
+pub mod Tables
+pub mod Agree
+pub mod Laws
+pub mod Planned
+pub mod Walking
+pub mod Using
+pub mod Whole

@@ -1,0 +1,19 @@
+//! Finds the places at which the types of a program are wrong: those of a wrong kind, E10, and the data types that are
+//! recursive or empty, E11, each exactly as `rw_scoping` defines them.
+//!
+//! It leaves what the rules are to `rw_scoping`, and the nodes of a tree to `rw_nodes`.
+//! Scoping calls it once the rules on names are kept. Begin with `wrong.rt` and `check.rt`, then `specs/Spine.antt`.
+#![tactic(auto)]
+
+mod check;
+mod context;
+mod head;
+mod table;
+mod uses;
+mod variables;
+mod wrong;
+
+pub use wrong::misused;
+
+#[cfg(test)]
+mod tests;
