@@ -40,6 +40,18 @@ abbrev pub IsThen : List Ty → Ty → Ty → Type 0
 IsThen (n ∷ a ∷ b ∷ []) e block = (e ≡ computation n a) × (block ≡ computation n b)
 IsThen _ e block = ⊥
 
+-- a declaration's own signature holds with its variables as unknown types
+abbrev pub IsOwnType : Option Scheme → Ty → Type 0
+IsOwnType None type = ⊥
+IsOwnType (Some s) type = type ≡ apply unknown (scheme_type s)
+
+-- == Local signatures ==
+
+-- the type of a local signature is the type of the name that it is for
+abbrev pub IsSigned : List Ty → Option Binding → Ty → Type 0
+IsSigned locals (Some (Local k)) type = slice_get locals k ≡ Some type
+IsSigned locals _ type = Unit {0}
+
 -- == Trees ==
 
 module _ (world : World) where
@@ -63,11 +75,6 @@ module _ (world : World) where
   abbrev pub NameAgrees : List Ty → Option Binding → TypedNode → Type 0
   NameAgrees locals (Some (Local k)) a = slice_get locals k ≡ Some a.type
   NameAgrees locals binding a = IsInstance (scheme_at world binding) a.arguments a.type
-
-  -- a local signature gives its type, and that is the type of the name that it is for
-  abbrev pub IsSigned : List Ty → Option Binding → Ty → Type 0
-  IsSigned locals (Some (Local k)) type = slice_get locals k ≡ Some type
-  IsSigned locals _ type = Unit {0}
 
   -- where the local names have these types, by their numbers
   abbrev mutual
@@ -149,11 +156,6 @@ module _ (world : World) where
   abbrev pub AllClausesAgree : Ty → List (Alternative TypedNode) → Type 0
   AllClausesAgree type [] = Unit {0}
   AllClausesAgree type (alternative a pats side wheres ∷ cs) = (a.type ≡ type) × ClauseAgrees [] (alternative a pats side wheres) × AllClausesAgree type cs
-
-  -- a declaration's own signature holds with its variables as unknown types
-  abbrev pub IsOwnType : Option Scheme → Ty → Type 0
-  IsOwnType None type = ⊥
-  IsOwnType (Some s) type = type ≡ apply unknown (scheme_type s)
 
   -- the types of a declaration agree; one that is no function is of no type, which the unit type stands for
   abbrev pub DeclarationAgrees : Declaration TypedNode → Type 0
