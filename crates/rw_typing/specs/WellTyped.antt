@@ -7,7 +7,7 @@ use Rattle.rw_tree.specs.Trees.{Expression, variable, constructor, application, 
 use Rattle.rw_tree.specs.Trees.{Alternative, alternative, Alternatives, no_alternatives, more_alternatives, RightSide, plain_side, guarded_side, GuardedBody, guarded_body, GuardedBodies, no_bodies, more_bodies}
 use Rattle.rw_tree.specs.Trees.{LocalBinding, local_signature, local_function, local_pattern, LocalBindings, no_bindings, more_bindings, bind_statement, let_statement, run_statement, Statements, no_statements, more_statements}
 use Rattle.rw_tree.specs.Declarations.{Declaration, import_declaration, data_declaration, fixity_declaration, signature_declaration, function_declaration}
-use Rattle.rw_solving.specs.Types.{Ty, var, apply}
+use Rattle.rw_solving.specs.Types.{Ty, apply}
 use Rattle.rw_typing.specs.Words.{function, functions, tuple_type, unit_type, computation, unknown}
 use Rattle.rw_typing.specs.Written.{type_of}
 use Rattle.rw_typing.specs.Schemes.{Scheme, scheme_type, World, bool_type, scheme_at}
@@ -15,9 +15,9 @@ use Rattle.rw_typing.specs.TypedTrees.{TypedNode, pattern_type, row_types, parts
 
 -- == Instances ==
 
--- a variable of a signature stands for the argument with its number
+-- a variable of a signature stands for the argument with its number: there is one for each
 abbrev pub given : List Ty → ℕ → Ty
-given arguments x = get_or arguments x (var x)
+given arguments x = get_or arguments x unit_type
 
 -- a name of this scheme has this type, for these arguments
 abbrev pub IsInstance : Option Scheme → List Ty → Ty → Type 0
