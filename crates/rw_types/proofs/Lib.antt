@@ -8,3 +8,5 @@ pub mod Kept
 pub mod Entering
 pub mod Forms
 pub mod PatternArms
+pub mod Same
+pub mod Binders

@@ -14,6 +14,7 @@ mod operations;
 mod pattern;
 mod scheme;
 mod shape;
+mod written;
 
 pub use equation::Equation;
 pub use locals::Locals;

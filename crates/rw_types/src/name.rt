@@ -1,13 +1,14 @@
 // Names at nodes: each is of an instance of its scheme.
-ghost use Rattle.std.specs.Prelude.{◌≡◌, ◌<◌, ℕ, IfOk, map, length, get_or, slice_get, None, option_copied, [], Some};
+ghost use Rattle.std.specs.Prelude.{◌≡◌, ◌<◌, ℕ, IfOk, map, length, get_or, slice_get, None, option_copied, option_map, [], ◌∷◌, Some};
 ghost use Rattle.rw_solving.specs.Types.{Ty, plains, apply};
 ghost use Rattle.rw_typing.specs.Schemes.{scheme_at};
-ghost use Rattle.rw_typing.specs.WellTyped.{given, IsInstance, IsMatched};
-ghost use Rattle.rw_types.specs.Numbered.{argument_numbers};
+ghost use Rattle.rw_typing.specs.WellTyped.{given, IsInstance, IsMatched, IsSigned, NameAgrees};
+ghost use Rattle.rw_types.specs.Numbered.{argument_numbers, typed_by};
 ghost use Rattle.rw_types.specs.Seen.{seen_scheme, seen_option, seen_world};
 ghost use Rattle.rw_types.specs.Equations.{Adds};
 
-use crate::equation::{equate, never};
+use crate::equation::{equate, join, never};
+use crate::locals::Locals;
 use crate::operations::operation_scheme;
 use crate::scheme::{argument_names, instance_type, renewed};
 use crate::{Equation, Numbered, Scheme, World};
@@ -206,4 +207,134 @@ pub fn add_bound_match(
         Some(binding) => add_binding_match(alloc, world, binding, at, parts, out),
         None => never(alloc, out, at.number),
     }
+}
+
+// The node has the type of this binder, if there is one.
+fn add_binder(
+    alloc: Global,
+    binder: Option<u32>,
+    at: Numbered,
+    out: &mut Items<Equation>,
+) -> Result<(), OutOfMemory>
+    ensures { IfOk result (λ _. Adds out.old out.new (λ t. option_map t binder ≡ Some (t at.number))) }
+{
+    match binder {
+        Some(number) => {
+            join(out, number, at.number)?;
+            Ok(())
+        }
+        None => {
+            never(alloc, out, at.number)?;
+            Ok(())
+        }
+    }
+}
+
+// A name has its binder's type where it is local, and else an instance of what has this binding.
+fn add_named(
+    alloc: Global,
+    world: &World,
+    locals: &Locals,
+    binding: Binding,
+    at: Numbered,
+    out: &mut Items<Equation>,
+) -> Result<(), OutOfMemory>
+    ensures { IfOk result (λ _. Adds out.old out.new (λ t. NameAgrees (seen_world world.now) (map t locals.now) (Some binding) (typed_by t at))) }
+{
+    match binding {
+        Binding::Local(k) => {
+            add_binder(alloc, locals.binder(k), at, out)?;
+            Ok(())
+        }
+        Binding::Declared(_) => {
+            add_binding(alloc, world, binding, at, out)?;
+            Ok(())
+        }
+        Binding::Operation(_) => {
+            add_binding(alloc, world, binding, at, out)?;
+            Ok(())
+        }
+        Binding::Constructor(_, _) => {
+            add_binding(alloc, world, binding, at, out)?;
+            Ok(())
+        }
+    }
+}
+
+// A name has its binder's type where it is local, and else an instance of what it is bound to.
+pub fn add_name(
+    alloc: Global,
+    world: &World,
+    locals: &Locals,
+    at: Numbered,
+    out: &mut Items<Equation>,
+) -> Result<(), OutOfMemory>
+    ensures { IfOk result (λ _. Adds out.old out.new (λ t. NameAgrees (seen_world world.now) (map t locals.now) at.node.bound (typed_by t at))) }
+{
+    match at.node.bound {
+        Some(binding) => {
+            add_named(alloc, world, locals, binding, at, out)?;
+            Ok(())
+        }
+        None => {
+            never(alloc, out, at.number)?;
+            Ok(())
+        }
+    }
+}
+
+// The type of a local signature is that of the name with this binding.
+fn add_signed_by(
+    alloc: Global,
+    locals: &Locals,
+    binding: Binding,
+    at: Numbered,
+    out: &mut Items<Equation>,
+) -> Result<(), OutOfMemory>
+    ensures { IfOk result (λ _. Adds out.old out.new (λ t. IsSigned (map t locals.now) (Some binding) (t at.number))) }
+{
+    match binding {
+        Binding::Local(k) => {
+            add_binder(alloc, locals.binder(k), at, out)?;
+            Ok(())
+        }
+        Binding::Declared(_) => Ok(()),
+        Binding::Operation(_) => Ok(()),
+        Binding::Constructor(_, _) => Ok(()),
+    }
+}
+
+// The type of a local signature is that of the name that it is for, if it is for one.
+pub fn add_signed(
+    alloc: Global,
+    locals: &Locals,
+    at: Numbered,
+    out: &mut Items<Equation>,
+) -> Result<(), OutOfMemory>
+    ensures { IfOk result (λ _. Adds out.old out.new (λ t. IsSigned (map t locals.now) at.node.bound (t at.number))) }
+{
+    match at.node.bound {
+        Some(binding) => {
+            add_signed_by(alloc, locals, binding, at, out)?;
+            Ok(())
+        }
+        None => Ok(()),
+    }
+}
+
+// There is one of these variables, and it is the other.
+pub fn add_only(
+    alloc: Global,
+    parts: &[u32],
+    number: u32,
+    out: &mut Items<Equation>,
+) -> Result<(), OutOfMemory>
+    ensures { IfOk result (λ _. Adds out.old out.new (λ t. map t parts.now ≡ t number ∷ [])) }
+{
+    if parts.len() != 1 {
+        never(alloc, out, number)?;
+        return Ok(());
+    }
+    join(out, parts[0], number)?;
+    Ok(())
 }

@@ -1,10 +1,10 @@
 -- Typed trees: trees whose nodes carry types.
-use Rattle.std.specs.Prelude.{ℕ, List, [], ◌∷◌, map}
+use Rattle.std.specs.Prelude.{ℕ, List, [], ◌∷◌, map, Bool, true, false}
 use Rattle.rw_scoping.specs.declared.binding.Bound.{Bound}
 use Rattle.rw_scoping.specs.Bindings.{pattern_variables, row_variables, binding_variables, group_variables}
 use Rattle.rw_tree.specs.Patterns.{Pattern, wildcard, variable_pattern, constructor_pattern, tuple_pattern, Patterns, no_patterns, more_patterns}
 use Rattle.rw_tree.specs.Trees.{Expression, variable, constructor, application, tuple, chain, lambda, let_in, if_then_else, case_of, do_block, Expressions, no_expressions, more_expressions}
-use Rattle.rw_tree.specs.Trees.{LocalBinding, LocalBindings}
+use Rattle.rw_tree.specs.Trees.{Alternative, alternative, LocalBinding, LocalBindings, Statement, bind_statement, let_statement, run_statement, Statements, no_statements, more_statements}
 use Rattle.rw_tree.specs.Declarations.{Declaration}
 use Rattle.rw_solving.specs.Types.{Ty, apply}
 use Rattle.rw_typing.specs.Relabelled.{relabelled_declaration}
@@ -45,6 +45,9 @@ expression_label (if_then_else a test first second) = a
 expression_label (case_of a scrutinee rows) = a
 expression_label (do_block a steps) = a
 
+abbrev pub alternative_label : {X : Type 0} → Alternative X → X
+alternative_label (alternative a pats side wheres) = a
+
 -- the types of patterns and expressions
 abbrev pub pattern_type : Pattern TypedNode → Ty
 pattern_type p = (pattern_label p).type
@@ -75,3 +78,13 @@ binding_locals b = map (λ v. v.1.type) (binding_variables b)
 
 abbrev pub group_locals : LocalBindings TypedNode → List Ty
 group_locals group = map (λ v. v.1.type) (group_variables group)
+
+abbrev pub statement_locals : Statement TypedNode → List Ty
+statement_locals (bind_statement a p e) = pattern_locals p
+statement_locals (let_statement a group) = group_locals group
+statement_locals (run_statement a e) = []
+
+-- whether there is no statement more
+abbrev pub are_none : {X : Type 0} → Statements X → Bool
+are_none no_statements = true
+are_none (more_statements s ss) = false

@@ -1,17 +1,17 @@
 -- When the types of a tree agree: one case for each kind of node (of Haskell 2010 Report, chapters 3 and 4, with one type for each local name).
-use Rattle.std.specs.Prelude.{◌≡◌, ℕ, List, [], ◌∷◌, ◌++◌, length, map, get_or, slice_get, Option, Some, None}
+use Rattle.std.specs.Prelude.{◌≡◌, ℕ, List, [], ◌∷◌, ◌++◌, length, map, get_or, slice_get, Bool, true, false, Option, Some, None}
 use Rattle.rw_scoping.specs.declared.binding.Binding.{Binding}
 use Rattle.rw_scoping.specs.declared.binding.Binding.TheVariants.{Local}
 use Rattle.rw_tree.specs.Patterns.{Pattern, wildcard, variable_pattern, constructor_pattern, tuple_pattern, Patterns, no_patterns, more_patterns}
 use Rattle.rw_tree.specs.Trees.{Expression, variable, constructor, application, tuple, chain, lambda, let_in, if_then_else, case_of, do_block, Expressions, no_expressions, more_expressions}
 use Rattle.rw_tree.specs.Trees.{Alternative, alternative, Alternatives, no_alternatives, more_alternatives, RightSide, plain_side, guarded_side, GuardedBody, guarded_body, GuardedBodies, no_bodies, more_bodies}
-use Rattle.rw_tree.specs.Trees.{LocalBinding, local_signature, local_function, local_pattern, LocalBindings, no_bindings, more_bindings, bind_statement, let_statement, run_statement, Statements, no_statements, more_statements}
+use Rattle.rw_tree.specs.Trees.{LocalBinding, local_signature, local_function, local_pattern, LocalBindings, no_bindings, more_bindings, Statement, bind_statement, let_statement, run_statement, Statements, no_statements, more_statements}
 use Rattle.rw_tree.specs.Declarations.{Declaration, import_declaration, data_declaration, fixity_declaration, signature_declaration, function_declaration}
 use Rattle.rw_solving.specs.Types.{Ty, apply}
 use Rattle.rw_typing.specs.Words.{function, functions, tuple_type, unit_type, computation, unknown}
 use Rattle.rw_typing.specs.Written.{type_of}
 use Rattle.rw_typing.specs.Schemes.{Scheme, scheme_type, World, bool_type, scheme_at}
-use Rattle.rw_typing.specs.TypedTrees.{TypedNode, pattern_type, row_types, parts_types, expression_type, expressions_types, pattern_locals, row_locals, group_locals}
+use Rattle.rw_typing.specs.TypedTrees.{TypedNode, alternative_label, pattern_type, row_types, parts_types, expression_type, expressions_types, row_locals, group_locals, statement_locals, are_none}
 
 -- == Instances ==
 
@@ -110,8 +110,7 @@ module _ (world : World) where
     -- clauses of one type
     pub ClausesAgree : List Ty → Ty → Alternatives TypedNode → Type 0
     ClausesAgree locals type no_alternatives = Unit {0}
-    ClausesAgree locals type (more_alternatives (alternative a pats side wheres) cs) =
-        (a.type ≡ type) × ClauseAgrees locals (alternative a pats side wheres) × ClausesAgree locals type cs
+    ClausesAgree locals type (more_alternatives c cs) = ((alternative_label c).type ≡ type) × ClauseAgrees locals c × ClausesAgree locals type cs
 
     -- a right side whose bodies, as functions of these types, are of one type
     pub SideAgrees : List Ty → List Ty → Ty → RightSide TypedNode → Type 0
@@ -127,35 +126,39 @@ module _ (world : World) where
     BodiesAgree locals from type no_bodies = Unit {0}
     BodiesAgree locals from type (more_bodies b bs) = BodyAgrees locals from type b × BodiesAgree locals from type bs
 
-    -- a binding of a group: the names of the group are among the local ones. A bound pattern has the type of its right side
+    -- a binding of a group: the names of the group are among the local ones
     pub BindingAgrees : List Ty → LocalBinding TypedNode → Type 0
     BindingAgrees locals (local_signature a x type) = (a.type ≡ type_of world.types [] type) × IsSigned locals a.node.bound a.type
     BindingAgrees locals (local_function a x clauses) = ClausesAgree locals a.type clauses
-    BindingAgrees locals (local_pattern a (alternative b pats side wheres)) =
-        ((b.type ≡ a.type) × (row_types pats ≡ a.type ∷ []) × RowAgrees pats)
-        × SideAgrees (locals ++ group_locals wheres) [] a.type side × GroupAgrees (locals ++ group_locals wheres) wheres
+    BindingAgrees locals (local_pattern a bound) = BoundPatternAgrees locals a.type bound
+
+    -- a bound pattern and its right side are of this type
+    pub BoundPatternAgrees : List Ty → Ty → Alternative TypedNode → Type 0
+    BoundPatternAgrees locals type (alternative a pats side wheres) =
+        ((a.type ≡ type) × (row_types pats ≡ type ∷ []) × RowAgrees pats)
+        × SideAgrees (locals ++ group_locals wheres) [] type side × GroupAgrees (locals ++ group_locals wheres) wheres
 
     pub GroupAgrees : List Ty → LocalBindings TypedNode → Type 0
     GroupAgrees locals no_bindings = Unit {0}
     GroupAgrees locals (more_bindings b bs) = BindingAgrees locals b × GroupAgrees locals bs
 
-    -- statements of a block of this type, which each of them has too: it is the type of what is left of the block there
+    -- a statement of a block of this type, the last one or another. Each has the block's type, which is the type of what is left of the block there
+    pub StatementAgrees : List Ty → Ty → Bool → Statement TypedNode → Type 0
+    StatementAgrees locals block true (run_statement a e) = ((a.type ≡ block) × (a.arguments ≡ []) × (expression_type e ≡ block)) × ExpressionAgrees locals e
+    StatementAgrees locals block true _ = ⊥
+    StatementAgrees locals block false (run_statement a e) = ((a.type ≡ block) × IsThen a.arguments (expression_type e) block) × ExpressionAgrees locals e
+    StatementAgrees locals block false (bind_statement a p e) =
+        ((a.type ≡ block) × IsBind a.arguments (expression_type e) (pattern_type p) block) × PatternAgrees p × ExpressionAgrees locals e
+    StatementAgrees locals block false (let_statement a group) = (a.type ≡ block) × GroupAgrees (locals ++ group_locals group) group
+
     pub StatementsAgree : List Ty → Ty → Statements TypedNode → Type 0
-    StatementsAgree locals block no_statements = ⊥
-    StatementsAgree locals block (more_statements (bind_statement a p e) ss) =
-        ((a.type ≡ block) × IsBind a.arguments (expression_type e) (pattern_type p) block)
-        × PatternAgrees p × ExpressionAgrees locals e × StatementsAgree (locals ++ pattern_locals p) block ss
-    StatementsAgree locals block (more_statements (let_statement a group) ss) =
-        (a.type ≡ block) × GroupAgrees (locals ++ group_locals group) group × StatementsAgree (locals ++ group_locals group) block ss
-    StatementsAgree locals block (more_statements (run_statement a e) no_statements) =
-        ((a.type ≡ block) × (a.arguments ≡ []) × (expression_type e ≡ block)) × ExpressionAgrees locals e
-    StatementsAgree locals block (more_statements (run_statement a e) (more_statements s ss)) =
-        ((a.type ≡ block) × IsThen a.arguments (expression_type e) block) × ExpressionAgrees locals e × StatementsAgree locals block (more_statements s ss)
+    StatementsAgree locals block no_statements = Unit {0}
+    StatementsAgree locals block (more_statements s ss) = StatementAgrees locals block (are_none ss) s × StatementsAgree (locals ++ statement_locals s) block ss
 
   -- the clauses of a declaration
   abbrev pub AllClausesAgree : Ty → List (Alternative TypedNode) → Type 0
   AllClausesAgree type [] = Unit {0}
-  AllClausesAgree type (alternative a pats side wheres ∷ cs) = (a.type ≡ type) × ClauseAgrees [] (alternative a pats side wheres) × AllClausesAgree type cs
+  AllClausesAgree type (c ∷ cs) = ((alternative_label c).type ≡ type) × ClauseAgrees [] c × AllClausesAgree type cs
 
   -- the types of a declaration agree; one that is no function is of no type, which the unit type stands for
   abbrev pub DeclarationAgrees : Declaration TypedNode → Type 0
