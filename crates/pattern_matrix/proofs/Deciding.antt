@@ -1,9 +1,9 @@
 -- Whether rows cover, from whether what is left of them covers when their last column is taken away.
 use Rattle.std.proofs.Common.{◌≡◌, ◌∙◌, ℕ, suc, ◌<◌, ◌⊎◌, inl, inr, Bool, true, false, ◌||◌, List, [], ◌∷◌, ◌++◌, refl, sym, ap, subst, arith, IsTrue, ◌↔◌}
-use Rattle.pattern_matrix.specs.Values.{Shape, data_of, Shapes, more_shapes, Choices, choices_count, fields_of, opaque_value, built, Values, no_values, more_values, AreValues}
-use Rattle.pattern_matrix.specs.Matching.{PlainPattern, row_matches, AreRowsOf}
+use Rattle.pattern_matrix.specs.Values.{Shape, data_of, Shapes, no_shapes, more_shapes, Choices, choices_count, fields_of, opaque_value, built, Values, no_values, more_values, AreValues}
+use Rattle.pattern_matrix.specs.Matching.{PlainPattern, anything, constructed, row_matches, IsRowOf, AreRowsOf}
 use Rattle.pattern_matrix.specs.Coverage.{some_row_matches, Covers, Decides}
-use Rattle.pattern_matrix.specs.Columns.{group, shorter_rows, AreWithin, IsReached, HasEmpty}
+use Rattle.pattern_matrix.specs.Columns.{group, shorter_rows, AreWithin, IsReached, IsOpen, HasOpen}
 use Rattle.pattern_matrix.proofs.Rows.{some_value, some_value-is, some_values, some_values-are, some_choice, joined_shapes, joined_values, joined-are, shapes_count, same_count, split, IsCut, cut}
 use Rattle.pattern_matrix.proofs.Taken.{HasNone, rows_split, rows_none, rows_before, shorter_rows_within, group_of, shorter_of, rows_of_append, rows_of_more}
 
@@ -14,18 +14,25 @@ Rows = List (List PlainPattern)
 pub decides_none : Decides false []
 decides_none columns h = ((λ t. cc), λ covers. covers (some_values columns) (some_values-are columns))
 
--- a row of no patterns covers everything
+-- a row of wildcards alone covers everything
 or_true : (b : Bool) → (b || true) ≡ true
 or_true true = refl
 or_true false = refl
 
-empty_matches : (rows : Rows) (given : Values) → HasEmpty rows → IsTrue (some_row_matches rows given)
-empty_matches [] given h = absurd h
-empty_matches (row ∷ rows) given (inl e) = rw e refl
-empty_matches (row ∷ rows) given (inr h) = ap (λ b. row_matches row given || b) (empty_matches rows given h) ∙ or_true (row_matches row given)
+row_open : (row : List PlainPattern) (columns : Shapes) (given : Values) → IsOpen row → IsRowOf row columns → AreValues given columns → row_matches row given ≡ true
+row_open [] columns given h r is = refl
+row_open (anything ∷ ps) no_shapes given h r is = absurd r
+row_open (anything ∷ ps) (more_shapes shape columns) no_values h r is = absurd is
+row_open (anything ∷ ps) (more_shapes shape columns) (more_values value given) h r is = row_open ps columns given h r.1 is.1
+row_open (constructed place among parts ∷ ps) columns given h r is = absurd h
 
-pub decides_empty : (rows : Rows) → HasEmpty rows → Decides true rows
-decides_empty rows h columns r = ((λ t given is. empty_matches rows given h), λ covers. refl)
+open_matches : (rows : Rows) (columns : Shapes) (given : Values) → HasOpen rows → AreRowsOf rows columns → AreValues given columns → IsTrue (some_row_matches rows given)
+open_matches [] columns given h r is = absurd h
+open_matches (row ∷ rows) columns given (inl e) r is = rw (row_open row columns given e r.0 is) refl
+open_matches (row ∷ rows) columns given (inr h) r is = ap (λ b. row_matches row given || b) (open_matches rows columns given h r.1 is) ∙ or_true (row_matches row given)
+
+pub decides_open : (rows : Rows) → HasOpen rows → Decides true rows
+decides_open rows h columns r = ((λ t given is. open_matches rows columns given h r is), λ covers. refl)
 
 -- some row reaches a column, so there is one
 pub reached_cut : (n : ℕ) (rows : Rows) (columns : Shapes) → IsReached (suc n) rows → AreRowsOf rows columns → IsCut n columns

@@ -1,5 +1,5 @@
 -- The plain form of each pattern, and of rows that grow or lose a pattern at their end.
-use Rattle.std.proofs.Common.{◌≡◌, ◌∙◌, ℕ, suc, zero, ◌+◌, ◌≤◌, ◌<◌, inl, inr, List, [], ◌∷◌, ◌++◌, take, drop, length, map, get_or, reverse, Some, None, nat_eq, refl, sym, ap, subst, arith, if◌then◌else◌}
+use Rattle.std.proofs.Common.{◌≡◌, ◌∙◌, ℕ, suc, zero, ◌+◌, ◌≤◌, ◌<◌, inl, inr, List, [], ◌∷◌, ◌++◌, take, drop, drop-cons, add-one, length, map, get_or, reverse, Some, None, nat_eq, refl, sym, ap, subst, arith, if◌then◌else◌}
 use Rattle.std.proofs.lemmas.List.{map-append, take_more, drop_more, append-nil, append_assoc, length-append}
 use Rattle.pattern_matrix.specs.declared.pattern.Pattern.{Pattern}
 use Rattle.pattern_matrix.specs.declared.pattern.Pattern.TheVariants as pat
@@ -7,7 +7,7 @@ use Rattle.pattern_matrix.specs.declared.pattern.Pattern.TheOpen.{Pattern-F}
 use Rattle.pattern_matrix.specs.declared.pattern.Pattern.TheFolds.{fold-roll-Pattern}
 use Rattle.pattern_matrix.specs.Matching.{PlainPattern, anything, constructed, pattern_parts, parts_list, pattern_step, plain, plain_row, plain_rows}
 use Rattle.pattern_matrix.proofs.Turned.{reverse-snoc, group-cons, shorter-cons, group-nil, shorter-nil, within_front}
-use Rattle.pattern_matrix.specs.Columns.{group, shorter_rows, cell_at, grown_cell, grown, shorter_cell, shorter, cell_count, column_count, AreWithin, IsReached, HasEmpty}
+use Rattle.pattern_matrix.specs.Columns.{group, shorter_rows, cell_at, grown_cell, grown, shorter_cell, shorter, cell_count, column_count, AreWithin, IsReached, IsOpen, HasOpen}
 
 pub plain-Any : plain pat.Any ≡ anything
 plain-Any = ap plain (sym pat.rolls-Any) ∙ fold-roll-Pattern PlainPattern pattern_step Pattern-F.Any
@@ -131,10 +131,17 @@ width_step_more n m rows i row h e k is w =
     subst (λ x. IsWidth x (plain_rows (take (i + 1) rows))) (plain_length row ∙ sym is)
     (subst (IsWidth (length (plain_row row))) (sym (take_plain rows i row h e)) (width_more n (plain_rows (take i rows)) (plain_row row) (omega (arith, plain_length row)) w))
 
-pub empty_at : (rows : List (List Pattern)) (i : ℕ) (row : List Pattern) → i < length rows → row ≡ get_or rows i row → row ≡ [] → HasEmpty (plain_rows rows)
-empty_at [] i row h e k = absurd (omega arith)
-empty_at (r ∷ rows) zero row h e k = inl (ap plain_row (sym e ∙ k))
-empty_at (r ∷ rows) (suc i) row h e k = inr (empty_at rows i row (omega arith) e k)
+-- a wildcard before wildcards
+pub open_more : (row : List Pattern) (i : ℕ) (p : Pattern) → i < length row → p ≡ get_or row i p → p ≡ pat.Any → IsOpen (plain_row (drop (i + 1) row)) → IsOpen (plain_row (drop i row))
+open_more row i p h e any rest =
+    subst (λ (ps : List PlainPattern). IsOpen ps)
+    (sym (ap plain_row (drop-cons row i p h) ∙ ap (λ (q : Pattern). plain q ∷ plain_row (drop (suc i) row)) (sym e ∙ any) ∙ ap (λ (q : PlainPattern). q ∷ plain_row (drop (suc i) row)) plain-Any))
+    (subst (λ (n : ℕ). IsOpen (plain_row (drop n row))) (add-one i) rest)
+
+pub open_at : (rows : List (List Pattern)) (i : ℕ) (row : List Pattern) → i < length rows → row ≡ get_or rows i row → IsOpen (plain_row row) → HasOpen (plain_rows rows)
+open_at [] i row h e k = absurd (omega arith)
+open_at (r ∷ rows) zero row h e k = inl (subst (λ x. IsOpen (plain_row x)) e k)
+open_at (r ∷ rows) (suc i) row h e k = inr (open_at rows i row (omega arith) e k)
 
 -- what the first constructor says, of the rows that are left
 pub count_step : (rows : List (List Pattern)) (i : ℕ) (row : List Pattern) (n : ℕ) → i < length rows → row ≡ get_or rows i row → column_count n (plain_rows (drop i rows)) ≡ cell_count (cell_at n (plain_row row)) (column_count n (plain_rows (drop (i + 1) rows)))

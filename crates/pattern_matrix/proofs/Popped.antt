@@ -5,8 +5,8 @@ use Rattle.std.proofs.lemmas.Bool.{cases_eq}
 use Rattle.pattern_matrix.specs.declared.pattern.Pattern.{Pattern}
 use Rattle.pattern_matrix.specs.Matching.{PlainPattern, plain_row, plain_rows}
 use Rattle.pattern_matrix.specs.Coverage.{Decides}
-use Rattle.pattern_matrix.specs.Columns.{group, shorter_rows, column_count, AreWithin, IsReached, AreGroups, HasEmpty, rows_nodes}
-use Rattle.pattern_matrix.proofs.Deciding.{IsDone, IsMissing, decides_none, decides_empty, decides_all, decides_missing, decides_uncovered}
+use Rattle.pattern_matrix.specs.Columns.{group, shorter_rows, column_count, AreWithin, IsReached, AreGroups, IsOpen, HasOpen, rows_nodes}
+use Rattle.pattern_matrix.proofs.Deciding.{IsDone, IsMissing, decides_none, decides_open, decides_all, decides_missing, decides_uncovered}
 use Rattle.pattern_matrix.proofs.Turned.{decides_turned, turned_within, turned_reached, turned_counted, turned_nodes}
 use Rattle.pattern_matrix.proofs.Smaller.{rows_less, rows_nodes-append}
 
@@ -91,10 +91,10 @@ no_width w slice (row ∷ rows) true e z h b = let f : row ∷ rows ≡ [] = b.0
 no_width w slice (row ∷ rows) false e z h b =
     let k : AreWithin w (plain_rows (row ∷ rows)) = subst (λ r. AreWithin w (plain_rows r)) e h in
     let l : length (plain_row row) ≤ w = k.0 in
-    decides_empty (plain_rows (row ∷ rows)) (inl (nil_from_length (plain_row row) (omega arith)))
+    decides_open (plain_rows (row ∷ rows)) (inl (subst IsOpen (sym (nil_from_length (plain_row row) (omega arith))) tt))
 
-pub empty_row : (slice rows : List (List Pattern)) → slice ≡ rows → HasEmpty (plain_rows slice) → Decides true (plain_rows rows)
-empty_row slice rows e h = decides_empty (plain_rows rows) (subst (λ r. HasEmpty (plain_rows r)) e h)
+pub open_row : (slice rows : List (List Pattern)) → slice ≡ rows → HasOpen (plain_rows slice) → Decides true (plain_rows rows)
+open_row slice rows e h = decides_open (plain_rows rows) (subst (λ r. HasOpen (plain_rows r)) e h)
 
 pub if_ok_weaker : {T E : Type 0} (r : Result T E) {P Q : T → Type 0} → ((x : T) → P x → Q x) → IfOk r P → IfOk r Q
 if_ok_weaker (Ok x) f h = f x h

@@ -54,10 +54,16 @@ abbrev pub IsReached : ℕ → List (List PlainPattern) → Type 0
 IsReached n [] = ⊥
 IsReached n (row ∷ rows) = (length row ≡ n) ⊎ IsReached n rows
 
--- some row has none
-abbrev pub HasEmpty : List (List PlainPattern) → Type 0
-HasEmpty [] = ⊥
-HasEmpty (row ∷ rows) = (row ≡ []) ⊎ HasEmpty rows
+-- a row that everything matches: it has wildcards alone, or nothing
+abbrev pub IsOpen : List PlainPattern → Type 0
+IsOpen [] = Unit {0}
+IsOpen (anything ∷ ps) = IsOpen ps
+IsOpen (constructed place among parts ∷ ps) = ⊥
+
+-- some row is so
+abbrev pub HasOpen : List (List PlainPattern) → Type 0
+HasOpen [] = ⊥
+HasOpen (row ∷ rows) = IsOpen row ⊎ HasOpen rows
 
 -- these are the groups of the constructors from the first on
 abbrev pub AreGroups : ℕ → List (List PlainPattern) → List (List (List PlainPattern)) → Type 0

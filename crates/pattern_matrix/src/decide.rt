@@ -6,7 +6,7 @@ ghost use Rattle.pattern_matrix.specs.Coverage.{Covers};
 
 use crate::Pattern;
 use crate::copy::with_copies;
-use crate::measures::{has_empty, widest};
+use crate::measures::{has_open, widest};
 use crate::sort::{Sorted, sort_rows};
 use rw_base::OutOfMemory;
 use sqlite_items::Items;
@@ -26,7 +26,7 @@ pub fn covers(alloc: Global, rows: Items<Items<Pattern>>) -> Result<bool, OutOfM
     if width == 0 {
         return Ok(!rows.is_empty());
     }
-    if has_empty(rows.as_slice()) {
+    if has_open(rows.as_slice()) {
         return Ok(true);
     }
     let last = width - 1;

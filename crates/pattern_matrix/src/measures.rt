@@ -1,8 +1,8 @@
-// What is seen of rows at a glance: how long the longest is, whether one has no patterns, and how many constructors the
+// What is seen of rows at a glance: how long the longest is, whether everything matches one, and how many constructors the
 // type of a column has.
 ghost use Rattle.std.specs.Prelude.{◌≡◌, ◌+◌, ◌<◌, ℕ, suc, MatchOption, IsTrue};
 ghost use Rattle.pattern_matrix.specs.Matching.{plain_row, plain_rows};
-ghost use Rattle.pattern_matrix.specs.Columns.{AreWithin, IsReached, HasEmpty, cell_at, cell_count, column_count as count_of};
+ghost use Rattle.pattern_matrix.specs.Columns.{AreWithin, IsReached, HasOpen, IsOpen, cell_at, cell_count, column_count as count_of};
 
 use crate::Pattern;
 use sqlite_items::Items;
@@ -21,12 +21,25 @@ pub fn widest(rows: &[Items<Pattern>]) -> usize
     width
 }
 
-// Whether some row has no patterns.
-pub fn has_empty(rows: &[Items<Pattern>]) -> bool
-    ensures { IsTrue result → HasEmpty (plain_rows rows.now) }
+// Whether a row has wildcards alone, or nothing.
+fn is_open(row: &[Pattern]) -> bool
+    ensures { IsTrue result → IsOpen (plain_row row.now) }
+{
+    for pattern in row {
+        match pattern {
+            Pattern::Any => {}
+            Pattern::Con(_, _, _) => return false,
+        }
+    }
+    true
+}
+
+// Whether everything matches some row: it has wildcards alone, or nothing.
+pub fn has_open(rows: &[Items<Pattern>]) -> bool
+    ensures { IsTrue result → HasOpen (plain_rows rows.now) }
 {
     for row in rows {
-        if row.is_empty() {
+        if is_open(row.as_slice()) {
             return true;
         }
     }

@@ -139,3 +139,46 @@ fn sixteen_constructors_in_two_columns(rt: HostRuntime) -> Result<(), OutOfMemor
     assert_eq!(rt; covers(rt.alloc(), rows)?, true);
     Ok(())
 }
+
+/// A row for each of so many columns, with `True` in it and wildcards in the others, and a last row of wildcards if it is
+/// asked for.
+fn one_in_each(
+    alloc: Global,
+    columns: usize,
+    last: bool,
+) -> Result<Items<Items<Pattern>>, OutOfMemory> {
+    let mut rows = Items::new(alloc);
+    for at in 0..columns {
+        rows.push(true_at(alloc, columns, at)?)?;
+    }
+    if last {
+        rows.push(true_at(alloc, columns, columns)?)?;
+    }
+    Ok(rows)
+}
+
+/// A row of so many columns, with `True` in this one.
+fn true_at(alloc: Global, columns: usize, at: usize) -> Result<Items<Pattern>, OutOfMemory> {
+    let mut row = Items::new(alloc);
+    for column in 0..columns {
+        if column == at {
+            row.push(truth(alloc, 1))?;
+        } else {
+            row.push(Pattern::Any)?;
+        }
+    }
+    Ok(row)
+}
+
+#[test]
+fn wildcards_in_sixty_four_columns(rt: HostRuntime) -> Result<(), OutOfMemory> {
+    assert_eq!(rt;
+        covers(rt.alloc(), one_in_each(rt.alloc(), 64, true)?)?,
+        true
+    );
+    assert_eq!(rt;
+        covers(rt.alloc(), one_in_each(rt.alloc(), 64, false)?)?,
+        false
+    );
+    Ok(())
+}

@@ -5,15 +5,15 @@ use Rattle.pattern_matrix.specs.Matching.{plain_rows}
 use Rattle.pattern_matrix.specs.Coverage.{Decides}
 use Rattle.pattern_matrix.specs.Columns.{group, column_count}
 use Rattle.pattern_matrix.proofs.Deciding.{IsDone}
-use Rattle.pattern_matrix.proofs.Popped.{IsLast, popped, done_more, answer_uncovered, answer_all, answer_missing, group_less, shorter_less, left_is, width_in, width_to, no_width, empty_row, if_ok_weaker}
+use Rattle.pattern_matrix.proofs.Popped.{IsLast, popped, done_more, answer_uncovered, answer_all, answer_missing, group_less, shorter_less, left_is, width_in, width_to, no_width, open_row, if_ok_weaker}
 use Rattle.pattern_matrix.proofs.decide.+covers.Goals as goal
 
 pub returns-then-width-eq0 : goal.returns-then-width-eq0
 returns-then-width-eq0 t c =
     no_width c.widest-width.result c.as_slice.result.now c.args.rows c.is_empty.result c.as_slice.ensures c.if-width-eq0.true c.widest-width.ensures.within c.is_empty.ensures
 
-pub returns-then-has_empty : goal.returns-then-has_empty
-returns-then-has_empty t c = empty_row c.as_slice-2.result.now c.args.rows c.as_slice-2.ensures (c.has_empty.ensures c.if-has_empty.true)
+pub returns-then-has_open : goal.returns-then-has_open
+returns-then-has_open t c = open_row c.as_slice-2.result.now c.args.rows c.as_slice-2.ensures (c.has_open.ensures c.if-has_open.true)
 
 pub loop-group-preserved-then-is_empty : goal.loop-group-preserved-then-is_empty
 loop-group-preserved-then-is_empty t c =
