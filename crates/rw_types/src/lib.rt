@@ -1,0 +1,24 @@
+//! The inference of types, as far as it goes: the equations that say that a typed tree agrees.
+//!
+//! It leaves what a typing is to `rw_typing`, and solving the equations to `rw_solving`.
+//! The front of the compiler is to use it. Each node of a tree has a variable, and each argument of an instance has one.
+//! Begin with `numbered.rt` and `equation.rt`, then `specs/Numbered.antt` and `specs/Equations.antt`.
+#![tactic(auto)]
+
+mod equation;
+mod label;
+mod locals;
+mod name;
+mod numbered;
+mod operations;
+mod pattern;
+mod scheme;
+mod shape;
+mod written;
+
+pub use equation::Equation;
+pub use locals::Locals;
+pub use numbered::Numbered;
+pub use operations::operation_scheme;
+pub use pattern::{add_pattern, add_row, enter_pattern, enter_row};
+pub use scheme::{DataName, Scheme, World};
