@@ -7,3 +7,5 @@ pub mod Planned
 pub mod Walking
 pub mod Using
 pub mod Whole
+pub mod Mentioned
+pub mod Circles

@@ -2,3 +2,4 @@
 pub mod Contexts
 pub mod Spine
 pub mod Agreeing
+pub mod Mentions

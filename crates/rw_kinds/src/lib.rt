@@ -2,17 +2,21 @@
 //! recursive or empty, E11, each exactly as `rw_scoping` defines them.
 //!
 //! It leaves what the rules are to `rw_scoping`, and the nodes of a tree to `rw_nodes`.
-//! Scoping calls it once the rules on names are kept. Begin with `wrong.rt` and `check.rt`, then `specs/Spine.antt`.
+//! Scoping calls it once the rules on names are kept. Begin with `wrong.rt` and `recursive.rt`, which stand on
+//! `check.rt` and `mentions.rt`.
 #![tactic(auto)]
 
 mod check;
 mod context;
 mod head;
+mod mentions;
+mod recursive;
 mod table;
 mod uses;
 mod variables;
 mod wrong;
 
+pub use recursive::recursive_or_empty;
 pub use wrong::misused;
 
 #[cfg(test)]

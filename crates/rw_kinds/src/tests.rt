@@ -1,6 +1,6 @@
 // The places of types of a wrong kind in small programs, found with ample memory.
 
-use crate::misused;
+use crate::{misused, recursive_or_empty};
 use rw_base::{Name, OutOfMemory, Place, Span};
 use rw_tree::{Alt, Constructor, DataDecl, Decl, Expr, Local, Program, Rhs, Written};
 use sqlite_items::{Boxed, Items};
@@ -40,18 +40,33 @@ fn signature(alloc: Global, line: u32, ty: Written) -> Result<Decl<Span>, OutOfM
     Ok(Decl::Sig(on(line), names, ty))
 }
 
-/// `data T = C type` on a line.
-fn data(alloc: Global, line: u32, ty: Written) -> Result<Decl<Span>, OutOfMemory> {
+/// A data type of this name, without variables, on a line.
+fn declared(
+    alloc: Global,
+    line: u32,
+    name: &[u8],
+    constructors: Items<Constructor>,
+) -> Result<Decl<Span>, OutOfMemory> {
+    let made = DataDecl {
+        name: Name::from_slice(alloc, name)?,
+        params: Items::new(alloc),
+        constructors,
+    };
+    Ok(Decl::Data(on(line), made))
+}
+
+/// `C type`.
+fn with_field(alloc: Global, ty: Written) -> Result<Items<Constructor>, OutOfMemory> {
     let made = Constructor {
         name: Name::from_slice(alloc, b"C")?,
         fields: one(alloc, ty)?,
     };
-    let made = DataDecl {
-        name: Name::from_slice(alloc, b"T")?,
-        params: Items::new(alloc),
-        constructors: one(alloc, made)?,
-    };
-    Ok(Decl::Data(on(line), made))
+    one(alloc, made)
+}
+
+/// `data T = C type` on a line.
+fn data(alloc: Global, line: u32, ty: Written) -> Result<Decl<Span>, OutOfMemory> {
+    declared(alloc, line, b"T", with_field(alloc, ty)?)
 }
 
 /// `f = x where x :: type`, with the signature on a line.
@@ -125,5 +140,26 @@ fn a_field_has_no_arrow_and_a_data_type_no_more_arguments_than_variables(
 ) -> Result<(), OutOfMemory> {
     let wrong = of_data(rt.alloc())?;
     assert_eq!(rt; wrong, 2);
+    Ok(())
+}
+
+/// How many places of E11 `data T = C U` and `data U` have, where `U` has these constructors.
+fn ill(alloc: Global, constructors: Items<Constructor>) -> Result<usize, OutOfMemory> {
+    let first = data(alloc, 1, constructor(alloc, b"U")?)?;
+    let second = declared(alloc, 2, b"U", constructors)?;
+    let program = program(alloc, first, second)?;
+    Ok(recursive_or_empty(alloc, &program)?.len())
+}
+
+#[test]
+fn data_types_lead_to_themselves_or_have_no_constructor(
+    rt: HostRuntime,
+) -> Result<(), OutOfMemory> {
+    let empty = ill(rt.alloc(), Items::new(rt.alloc()))?;
+    assert_eq!(rt; empty, 1);
+    let back = with_field(rt.alloc(), constructor(rt.alloc(), b"T")?)?;
+    assert_eq!(rt; ill(rt.alloc(), back)?, 2);
+    let other = with_field(rt.alloc(), constructor(rt.alloc(), b"V")?)?;
+    assert_eq!(rt; ill(rt.alloc(), other)?, 0);
     Ok(())
 }

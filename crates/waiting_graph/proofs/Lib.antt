@@ -2,3 +2,4 @@
 pub mod Passing
 pub mod States
 pub mod Searching
+pub mod Circling

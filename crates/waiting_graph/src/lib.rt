@@ -6,9 +6,11 @@
 //! Begin with `specs/Waiting.antt`, then `search.rt`.
 #![tactic(auto)]
 
+mod circle;
 mod search;
 mod stack;
 
+pub use circle::circular;
 pub use search::stuck;
 
 #[cfg(test)]

@@ -19,7 +19,7 @@ pub enum State {
 }
 
 // What is known of the node with this number. A number without a node is free.
-fn state_of(states: &[State], node: usize) -> State
+pub fn state_of(states: &[State], node: usize) -> State
     ensures { result ≡ state_at states.now node }
 {
     match states.get(node) {
@@ -114,7 +114,7 @@ fn search(
 }
 
 // Nothing is known of the nodes.
-fn unknown(alloc: Global, graph: &[Items<u32>]) -> Result<Vec<State>, OutOfMemory>
+pub fn unknown(alloc: Global, graph: &[Items<u32>]) -> Result<Vec<State>, OutOfMemory>
     ensures { IfOk result (λ states. states.items ≡ map (λ row. New) graph.now) }
 {
     let mut states = Vec::new(alloc);

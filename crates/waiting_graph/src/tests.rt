@@ -1,10 +1,9 @@
 // Marks of small graphs, with ample memory.
 
-use crate::stuck;
+use crate::{circular, stuck};
 use rw_base::OutOfMemory;
 use sqlite_items::Items;
 use std::alloc::Global;
-use std::test::Fail;
 
 /// What one node waits for.
 fn row(alloc: Global, nodes: &[u32]) -> Result<Items<u32>, OutOfMemory> {
@@ -21,17 +20,25 @@ fn small(alloc: Global, node: u32) -> Result<Items<Items<u32>>, OutOfMemory> {
 }
 
 #[test]
-fn what_leads_to_a_circle_is_stuck(rt: HostRuntime) -> Result<(), Fail> {
-    let graph = small(rt.alloc(), 1).map_err(|_| "memory")?;
-    let marks = stuck(rt.alloc(), graph.as_slice()).map_err(|_| "memory")?;
+fn what_leads_to_a_circle_is_stuck(rt: HostRuntime) -> Result<(), OutOfMemory> {
+    let graph = small(rt.alloc(), 1)?;
+    let marks = stuck(rt.alloc(), graph.as_slice())?;
     assert_eq!(rt; marks.as_slice(), [true, true, false].as_slice());
     Ok(())
 }
 
 #[test]
-fn what_waits_for_no_node_is_free(rt: HostRuntime) -> Result<(), Fail> {
-    let graph = small(rt.alloc(), 7).map_err(|_| "memory")?;
-    let marks = stuck(rt.alloc(), graph.as_slice()).map_err(|_| "memory")?;
+fn what_waits_for_no_node_is_free(rt: HostRuntime) -> Result<(), OutOfMemory> {
+    let graph = small(rt.alloc(), 7)?;
+    let marks = stuck(rt.alloc(), graph.as_slice())?;
     assert_eq!(rt; marks.as_slice(), [false, false, false].as_slice());
+    Ok(())
+}
+
+#[test]
+fn only_what_leads_back_to_itself_is_on_a_circle(rt: HostRuntime) -> Result<(), OutOfMemory> {
+    let graph = small(rt.alloc(), 1)?;
+    let marks = circular(rt.alloc(), graph.as_slice())?;
+    assert_eq!(rt; marks.as_slice(), [false, true, false].as_slice());
     Ok(())
 }
