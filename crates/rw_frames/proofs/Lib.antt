@@ -1,0 +1,2 @@
+-- How many frames each variant of a tree has.
+pub mod Counts
