@@ -13,3 +13,6 @@ mod nodes;
 mod program;
 
 pub use program::resolve_fixity;
+
+#[cfg(test)]
+mod tests;
