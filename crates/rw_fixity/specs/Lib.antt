@@ -1,0 +1,3 @@
+-- What functions inside promise each other.
+pub mod Nodes
+pub mod Found
