@@ -40,3 +40,20 @@ entered_types old new L e t = ap (map t) e.kept ∙ map-append t old e.more ∙ 
 -- they are unbound again
 pub entered_left : (old new left : List ℕ) (n : ℕ) (L : (ℕ → Ty) → List Ty) → Entered old new L → n ≡ length old → left ≡ take n new → left ≡ old
 entered_left old new left n L e p q = q ∙ ap (λ z. take z new) p ∙ ap (take (length old)) e.kept ∙ take-append_seam old e.more
+
+-- more names are bound
+pub record Longer (old now : List ℕ) : Type 0 where
+  pub more : List ℕ
+  pub kept : now ≡ old ++ more
+
+pub longer_start : (old now : List ℕ) → now ≡ old → Longer old now
+longer_start old now p = record { more = []; kept = p ∙ sym (append-nil old) }
+
+pub longer_step : (old now next : List ℕ) (X : (ℕ → Ty) → List Ty) → Longer old now → Entered now next X → Longer old next
+longer_step old now next X l e = record { more = l.more ++ e.more; kept = e.kept ∙ ap (λ z. z ++ e.more) l.kept ∙ append_assoc old l.more e.more }
+
+pub longer_same : (old now next : List ℕ) → Longer old now → next ≡ now → Longer old next
+longer_same old now next l p = record { more = l.more; kept = p ∙ l.kept }
+
+pub longer_left : (old now left : List ℕ) (n : ℕ) → Longer old now → n ≡ length old → left ≡ take n now → left ≡ old
+longer_left old now left n l p q = q ∙ ap (λ z. take z now) p ∙ ap (take (length old)) l.kept ∙ take-append_seam old l.more

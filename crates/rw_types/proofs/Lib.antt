@@ -10,3 +10,8 @@ pub mod Forms
 pub mod PatternArms
 pub mod Same
 pub mod Binders
+pub mod ExprArms
+pub mod ClauseArms
+pub mod Closed
+pub mod StepArms
+pub mod Loops

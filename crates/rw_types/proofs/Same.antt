@@ -3,13 +3,13 @@ use Rattle.std.proofs.Common.{◌≡◌, ◌↔◌, ℕ, suc, ◌+◌, ◌<◌, 
 use Rattle.std.specs.Bool.{if◌then◌else◌}
 use Rattle.std.proofs.lemmas.Bool.Decides.{nat_tests}
 use Rattle.rw_solving.specs.declared.term.Term.{Term}
-use Rattle.rw_solving.specs.Types.{Ty, plains}
+use Rattle.rw_solving.specs.Types.{Ty, var, plains}
 use Rattle.rw_scoping.specs.Names.{same_name, first_named}
 use Rattle.rw_types.specs.declared.scheme.DataName.{DataName}
 use Rattle.rw_types.specs.Seen.{seen_types}
 use Rattle.rw_types.proofs.Rows.{mapped_next, drop_next}
 use Rattle.rw_typing.specs.Words.{unit_type, identity}
-use Rattle.rw_typing.specs.Written.{variable_applied, identity_applied, state_applied, device_applied, position}
+use Rattle.rw_typing.specs.Written.{variable_applied, identity_applied, state_applied, device_applied, variable_from}
 
 same_digit : (x y : ℕ) → x ≡ y → nat_eq x y ≡ true
 same_digit x y e = grind (arith, nat_tests)
@@ -105,16 +105,15 @@ found_later ds i d x r l e h b =
     let n = name_is_not x d.name (λ q. told_false r (d.name ≡ x) h b (sym q)) in
     ap (first_named x) (mapped_next (λ z. (z.name, z.number)) ds i d l e) ∙ ap (λ z. if z then Some d.number else first_named x (seen_types (drop (i + 1) ds))) n
 
-pub position_here : (ns : List (List ℕ)) (i at : ℕ) (n x y : List ℕ) (r : Bool) → i < length ns → n ≡ get_or ns i n → y ≡ n → (r ≡ true ↔ (x ≡ y)) → r ≡ true
-    → at + position x (drop i ns) ≡ position x ns → at ≡ position x ns
-position_here ns i at n x y r l e p h b k =
+pub variable_here : (ns : List (List ℕ)) (i at : ℕ) (n x y : List ℕ) (r : Bool) (whole : Ty) → i < length ns → n ≡ get_or ns i n → y ≡ n → (r ≡ true ↔ (x ≡ y)) → r ≡ true
+    → variable_from at x (drop i ns) ≡ whole → var at ≡ whole
+variable_here ns i at n x y r whole l e p h b k =
     let s = name_is x n (h.0 b ∙ p) in
-    let z : position x (drop i ns) ≡ 0 = ap (position x) (drop_next ns i (i + 1) n l refl e) ∙ ap (λ v. if v then 0 else suc (position x (drop (i + 1) ns))) s in
-    omega arith
+    sym (ap (variable_from at x) (drop_next ns i (i + 1) n l refl e) ∙ ap (λ v. if v then var at else variable_from (suc at) x (drop (i + 1) ns)) s) ∙ k
 
-pub position_later : (ns : List (List ℕ)) (i at : ℕ) (n x y : List ℕ) (r : Bool) → i < length ns → n ≡ get_or ns i n → y ≡ n → (r ≡ true ↔ (x ≡ y)) → r ≡ false
-    → at + position x (drop i ns) ≡ position x ns → at + 1 + position x (drop (i + 1) ns) ≡ position x ns
-position_later ns i at n x y r l e p h b k =
+pub variable_later : (ns : List (List ℕ)) (i at : ℕ) (n x y : List ℕ) (r : Bool) (whole : Ty) → i < length ns → n ≡ get_or ns i n → y ≡ n → (r ≡ true ↔ (x ≡ y)) → r ≡ false
+    → variable_from at x (drop i ns) ≡ whole → variable_from (at + 1) x (drop (i + 1) ns) ≡ whole
+variable_later ns i at n x y r whole l e p h b k =
     let s = name_is_not x n (λ q. told_false r (x ≡ y) h b (q ∙ sym p)) in
-    let z : position x (drop i ns) ≡ suc (position x (drop (i + 1) ns)) = ap (position x) (drop_next ns i (i + 1) n l refl e) ∙ ap (λ v. if v then 0 else suc (position x (drop (i + 1) ns))) s in
-    omega arith
+    let z : suc at ≡ at + 1 = omega arith in
+    sym (ap (variable_from at x) (drop_next ns i (i + 1) n l refl e) ∙ ap (λ v. if v then var at else variable_from (suc at) x (drop (i + 1) ns)) s ∙ ap (λ v. variable_from v x (drop (i + 1) ns)) z) ∙ k

@@ -5,7 +5,10 @@
 //! Begin with `numbered.rt` and `equation.rt`, then `specs/Numbered.antt` and `specs/Equations.antt`.
 #![tactic(auto)]
 
+mod clause;
 mod equation;
+mod expr;
+mod group;
 mod label;
 mod locals;
 mod name;
@@ -14,6 +17,8 @@ mod operations;
 mod pattern;
 mod scheme;
 mod shape;
+mod statement;
+mod step;
 mod written;
 
 pub use equation::Equation;

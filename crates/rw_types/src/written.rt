@@ -1,10 +1,10 @@
 // Types as written, as terms.
 ghost use Rattle.std.specs.Prelude.{◌≡◌, ◌++◌, IfOk, map, [], option_copied, Some, codes};
-ghost use Rattle.rw_solving.specs.Types.{plain, plains, var};
+ghost use Rattle.rw_solving.specs.Types.{plain, plains};
 ghost use Rattle.rw_scoping.specs.Names.{first_named};
 ghost use Rattle.rw_tree.specs.Types.{written, writtens, type_parts};
 ghost use Rattle.rw_typing.specs.Words.{unit_type, identity as identity_type};
-ghost use Rattle.rw_typing.specs.Written.{position as position_in, variable_applied as applied_variable, identity_applied as applied_identity, state_applied as applied_state, device_applied as applied_device, data_applied as applied_data, constructor_applied as applied_constructor, type_applied as applied_type, types_of as types_of_parts, type_of as whole_type};
+ghost use Rattle.rw_typing.specs.Written.{variable_from, variable_applied as applied_variable, identity_applied as applied_identity, state_applied as applied_state, device_applied as applied_device, data_applied as applied_data, constructor_applied as applied_constructor, type_applied as applied_type, types_of as types_of_parts, type_of as whole_type};
 ghost use Rattle.rw_typing.specs.Schemes.{bool_type};
 ghost use Rattle.rw_types.specs.Seen.{seen_types, seen_world};
 
@@ -35,12 +35,12 @@ fn identity(alloc: Global) -> Term
 
 // A variable alone, or a computation of it.
 #[tactic(auto, using(rw_solving::proofs::Plains::plain_forms, crate::proofs::Same::so_many))]
-fn variable_applied(alloc: Global, x: u32, arguments: &[Term]) -> Result<Term, OutOfMemory>
-    ensures { IfOk result (λ made. plain made ≡ applied_variable (var x) (plains arguments.now)) }
+fn variable_applied(alloc: Global, x: Term, arguments: &[Term]) -> Result<Term, OutOfMemory>
+    ensures { IfOk result (λ made. plain made ≡ applied_variable (plain x) (plains arguments.now)) }
 {
     match arguments {
-        [] => Ok(Term::Var(x)),
-        [a] => computation(alloc, Term::Var(x), copied(alloc, a)?),
+        [] => Ok(x),
+        [a] => computation(alloc, x, copied(alloc, a)?),
         _ => Ok(unit(alloc)),
     }
 }
@@ -141,21 +141,22 @@ fn constructor_applied(
     Ok(data_applied(alloc, found(types, name.as_slice()), arguments))
 }
 
-// Which of these names it is, from 0. Numbers have 32 bits: more are want of memory.
-fn position(name: &Name, names: &[Name]) -> Result<u32, OutOfMemory>
-    ensures { IfOk result (λ at. at ≡ position_in name.now names.now) }
+// The variable of this name. Numbers have 32 bits: more are want of memory.
+#[tactic(auto, using(rw_solving::proofs::Plains::plain_forms))]
+fn variable(alloc: Global, name: &Name, names: &[Name]) -> Result<Term, OutOfMemory>
+    ensures { IfOk result (λ made. plain made ≡ variable_from 0 name.now names.now) }
 {
     let mut at: u32 = 0;
     for other in names {
         if name.is(other.as_slice()) {
-            return Ok(at);
+            return Ok(Term::Var(at));
         }
         if at == u32::MAX {
             return Err(OutOfMemory);
         }
         at += 1;
     }
-    Ok(at)
+    Ok(unit(alloc))
 }
 
 // `Bool`, which the prelude declares.
@@ -183,7 +184,7 @@ fn type_applied(
 {
     match tree {
         Written::Var(name) => {
-            let x = position(name, variables)?;
+            let x = variable(alloc, name, variables)?;
             variable_applied(alloc, x, arguments.as_slice())
         }
         Written::Con(name) => constructor_applied(alloc, types, name, arguments),

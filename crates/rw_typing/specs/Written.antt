@@ -21,10 +21,10 @@ data_types_from n [] = []
 data_types_from n (data_declaration a x params constructors ∷ ds) = (x, n) ∷ data_types_from (suc n) ds
 data_types_from n (_ ∷ ds) = data_types_from (suc n) ds
 
--- which of a list a name is, from 0
-abbrev pub position : Bytes → List Bytes → ℕ
-position x [] = 0
-position x (y ∷ ys) = if same_name x y then 0 else suc (position x ys)
+-- the variable of this name, where the variables are these, numbered from n on. One that is none of them breaks E08 or E10 before it is typed
+abbrev pub variable_from : ℕ → Bytes → List Bytes → Ty
+variable_from n x [] = unit_type
+variable_from n x (y ∷ ys) = if same_name x y then var n else variable_from (suc n) x ys
 
 -- each name of a list once, in the order in which it is first seen; those that were seen before are left out
 abbrev pub first_sights : List Bytes → List Bytes → List Bytes
@@ -72,7 +72,7 @@ module _ (types : List (Bytes × ℕ)) (variables : List Bytes) where
   -- a type as written, applied to these arguments; its variables are numbered as they stand in the list
   abbrev mutual
     pub type_applied : WrittenType → List Ty → Ty
-    type_applied (variable_type x) arguments = variable_applied (var (position x variables)) arguments
+    type_applied (variable_type x) arguments = variable_applied (variable_from 0 x variables) arguments
     type_applied (constructor_type c) arguments = constructor_applied types c arguments
     type_applied (applied_type head parts) arguments = type_applied head (types_of parts ++ arguments)
     type_applied (function_type from to) arguments = function (type_applied from []) (type_applied to [])
