@@ -5,7 +5,6 @@ use Rattle.rw_base.specs.declared.place.Span.{Span}
 use Rattle.rw_scoping.specs.declared.binding.Bound.{Bound}
 use Rattle.rw_scoping.specs.Bindings.{Tops, tops_of, bound_declarations, bound_program}
 use Rattle.rw_scoping.specs.Kinds.{data_mentions, recursive_or_empty}
-use Rattle.rw_scoping.specs.Verdict.{IsScoped}
 use Rattle.rw_tree.specs.Declarations.{Declaration, import_declaration, data_declaration, fixity_declaration, signature_declaration, function_declaration, PlainProgram}
 use Rattle.rw_solving.specs.Types.{Ty}
 use Rattle.rw_typing.specs.Schemes.{World, world_of}
@@ -15,13 +14,13 @@ use Rattle.pattern_matrix.specs.Values.{Shape, opaque}
 use Rattle.rw_coverage.specs.declared.known.Known.{Known}
 use Rattle.rw_coverage.specs.Rows.{counts_of, known_of}
 use Rattle.rw_coverage.specs.Coverage.{declaration_groups, groups_of}
-use Rattle.rw_cover.specs.Correct.{AllHaveTypes}
+use Rattle.rw_cover.specs.Correct.{AllHaveTypes, IsCovered}
 use Rattle.rw_shapes.specs.Shapes.{fields_in, HasShape, IsWorld}
-use Rattle.rw_shapes.specs.Columns.{StandAt, HaveInstances, declaration_columns}
-use Rattle.rw_shapes.specs.Typed.{IsTypedAs, AreTypedAs, IsTypableProgram}
+use Rattle.rw_shapes.specs.Columns.{StandAt, AllMatch, HaveInstances, declaration_columns, columns_of}
+use Rattle.rw_shapes.specs.Typed.{IsTypableProgram, IsSomeTyping, IsTypingOrDefault, AreTyped, AreTypingsOf, AreTypingsOrDefaultsOf}
 use Rattle.rw_shapes.proofs.Worlds.{world_is}
 use Rattle.rw_shapes.proofs.Columns.{stand_behind, declaration_stands}
-use Rattle.rw_shapes.proofs.Programs.{have_types}
+use Rattle.rw_shapes.proofs.Programs.{all_match, have_types}
 use Rattle.rw_shapes.proofs.Unfolding.{all_end}
 use Rattle.rw_shapes.proofs.Shaped.{has_shape, have_shapes}
 
@@ -55,13 +54,6 @@ instances program founded (ts ∷ rest) =
     let columns = have_shapes (fields_in (world_of program.declarations)) (λ x. opaque) (λ k. opaque) (suc (suc (length (flat_map data_mentions program.declarations)))) (all_end program.declarations founded) ts in
     (((λ x. opaque), (λ k. opaque), columns.0, columns.1), instances program founded rest)
 
-pub typable_types : (program : PlainProgram Span) (bound : PlainProgram Bound) → IsTypableProgram program bound → AllHaveTypes (groups_of bound)
-typable_types program bound is =
-    let world : World = world_of program.declarations in
-    let counts : List ℕ = counts_of bound.declarations in
-    let stand = all_stand world counts (subst (IsWorld world) (sym is.same_data) (world_is program.declarations)) (known_of bound.declarations) bound.declarations is.typable in
-    have_types world (groups_of bound) stand.0 stand.1 (instances program is.founded stand.0)
-
 -- binding changes no data type
 bound_counts : (tops : Tops) (n : ℕ) (ds : List (Declaration Span)) → counts_of (bound_declarations tops n ds) ≡ counts_of ds
 bound_counts tops n [] = refl
@@ -71,23 +63,44 @@ bound_counts tops n (fixity_declaration a side strength names ∷ ds) = ap (λ (
 bound_counts tops n (signature_declaration a names type ∷ ds) = ap (λ (ns : List ℕ). 0 ∷ ns) (bound_counts tops (suc n) ds)
 bound_counts tops n (function_declaration a x clauses ∷ ds) = ap (λ (ns : List ℕ). 0 ∷ ns) (bound_counts tops (suc n) ds)
 
-same_as_bound : (program : PlainProgram Span) → counts_of (bound_program program).declarations ≡ counts_of program.declarations
-same_as_bound program = bound_counts (tops_of program.declarations) 0 program.declarations
+bound_world_is : (program : PlainProgram Span) → IsWorld (world_of program.declarations) (counts_of (bound_program program).declarations)
+bound_world_is program = subst (IsWorld (world_of program.declarations)) (sym (bound_counts (tops_of program.declarations) 0 program.declarations)) (world_is program.declarations)
 
--- a typing or a default typing is a typing
-is_typable : (world : World) (d : Declaration Bound) (typed : Declaration TypedNode) → IsTypedAs world d typed → IsTypable world d
+pub typable_types : (program : PlainProgram Span) → recursive_or_empty program ≡ [] → IsTypableProgram program → AllHaveTypes (groups_of (bound_program program))
+typable_types program founded typable =
+    let world : World = world_of program.declarations in
+    let ds : List (Declaration Bound) = (bound_program program).declarations in
+    let stand = all_stand world (counts_of ds) (bound_world_is program) (known_of ds) ds typable in
+    have_types world (groups_of (bound_program program)) stand.0 stand.1 (instances program founded stand.0)
+
+-- a declaration with a typing or a default typing is typable
+is_typable : (world : World) (d : Declaration Bound) (typed : Declaration TypedNode) → IsTypingOrDefault world d typed → IsTypable world d
 is_typable world d typed (inl t) = record { sorts = t.0; states = t.1; typed = typed; typing = t.2 }
 is_typable world d typed (inr t) = record { sorts = t.sorts; states = t.states; typed = t.general; typing = t.typing }
 
-are_typable : (world : World) (ds : List (Declaration Bound)) (typed : List (Declaration TypedNode)) → AreTypedAs world ds typed → AllByRecursion (IsTypable world) ds
+are_typable : (world : World) (ds : List (Declaration Bound)) (typed : List (Declaration TypedNode)) → AreTyped (IsTypingOrDefault world) ds typed → AllByRecursion (IsTypable world) ds
 are_typable world [] [] h = tt
 are_typable world [] (t ∷ ts) h = absurd h
 are_typable world (d ∷ ds) [] h = absurd h
 are_typable world (d ∷ ds) (t ∷ ts) h = (is_typable world d t h.0, are_typable world ds ts h.1)
 
-pub typed_program : (program : PlainProgram Span) (typed : List (Declaration TypedNode)) → IsScoped program → AreTypedAs (world_of program.declarations) (bound_program program).declarations typed → IsTypableProgram program (bound_program program)
-typed_program program typed scoped are = record {
-  founded = scoped.data_types_are_founded;
-  same_data = same_as_bound program;
-  typable = are_typable (world_of program.declarations) (bound_program program).declarations typed are;
-}
+pub typed_is_typable : (program : PlainProgram Span) (typed : List (Declaration TypedNode)) → AreTypingsOrDefaultsOf program typed → IsTypableProgram program
+typed_is_typable program typed are = are_typable (world_of program.declarations) (bound_program program).declarations typed are
+
+-- the rows of given typings
+module _ (world : World) (counts : List ℕ) (is : IsWorld world counts) (known : Known) where
+  typings_stand : (ds : List (Declaration Bound)) (typed : List (Declaration TypedNode)) → AreTyped (IsSomeTyping world) ds typed → StandAt world (flat_map (declaration_groups counts known) ds) (flat_map declaration_columns typed)
+  typings_stand [] [] h = tt
+  typings_stand [] (t ∷ ts) h = absurd h
+  typings_stand (d ∷ ds) [] h = absurd h
+  typings_stand (d ∷ ds) (t ∷ ts) h =
+      stand_behind world (declaration_groups counts known d) (flat_map (declaration_groups counts known) ds) (declaration_columns t) (flat_map declaration_columns ts)
+      (subst (λ (e : Declaration Bound). StandAt world (declaration_groups counts known e) (declaration_columns t)) h.0.2.erases (declaration_stands world counts is known t h.0.2.agrees))
+      (typings_stand ds ts h.1)
+
+pub typings_match : (program : PlainProgram Span) (typed : List (Declaration TypedNode)) → AreTypingsOf program typed → AllByRecursion IsCovered (groups_of (bound_program program))
+    → AllMatch (world_of program.declarations) (groups_of (bound_program program)) (columns_of typed)
+typings_match program typed are covered =
+    let ds : List (Declaration Bound) = (bound_program program).declarations in
+    all_match (world_of program.declarations) (groups_of (bound_program program)) (columns_of typed)
+    (typings_stand (world_of program.declarations) (counts_of ds) (bound_world_is program) (known_of ds) ds typed are) covered

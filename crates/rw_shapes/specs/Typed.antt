@@ -1,29 +1,35 @@
--- Programs whose declarations are typed, and what rule E14 says of them.
-use Rattle.std.specs.Prelude.{◌≡◌, ◌⊎◌, ℕ, List, [], ◌∷◌, Bool}
+-- Programs whose declarations are typed.
+use Rattle.std.specs.Prelude.{◌⊎◌, ℕ, List, [], ◌∷◌, Bool}
 use Rattle.std.specs.List.{AllByRecursion}
 use Rattle.rw_base.specs.declared.place.Span.{Span}
 use Rattle.rw_scoping.specs.declared.binding.Bound.{Bound}
+use Rattle.rw_scoping.specs.Bindings.{bound_program}
 use Rattle.rw_tree.specs.Declarations.{Declaration, PlainProgram}
-use Rattle.rw_scoping.specs.Kinds.{recursive_or_empty}
 use Rattle.rw_solving.specs.declared.term.Sort.{Sort}
-use Rattle.rw_typing.specs.Schemes.{world_of}
-use Rattle.rw_typing.specs.Schemes.{World}
+use Rattle.rw_typing.specs.Schemes.{World, world_of}
 use Rattle.rw_typing.specs.TypedTrees.{TypedNode}
 use Rattle.rw_typing.specs.Typings.{IsTyping, IsTypable, IsDefault}
-use Rattle.rw_coverage.specs.Rows.{counts_of}
 
--- a typing of a declaration, of any sorts, or its default typing
-abbrev pub IsTypedAs : World → Declaration Bound → Declaration TypedNode → Type 0
-IsTypedAs world d typed = ((sorts : ℕ → Sort) × (states : ℕ → Bool) × IsTyping sorts states world d typed) ⊎ IsDefault world d typed
+-- each declaration, with its names bound, has a typing
+abbrev pub IsTypableProgram : PlainProgram Span → Type 0
+IsTypableProgram program = AllByRecursion (IsTypable (world_of program.declarations)) (bound_program program).declarations
 
--- each declaration has one of these, in their order
-abbrev pub AreTypedAs : World → List (Declaration Bound) → List (Declaration TypedNode) → Type 0
-AreTypedAs world [] [] = Unit {0}
-AreTypedAs world (d ∷ ds) (t ∷ ts) = IsTypedAs world d t × AreTypedAs world ds ts
-AreTypedAs world _ _ = ⊥
+-- a typing of a declaration, of any sorts
+abbrev pub IsSomeTyping : World → Declaration Bound → Declaration TypedNode → Type 0
+IsSomeTyping world d typed = (sorts : ℕ → Sort) × (states : ℕ → Bool) × IsTyping sorts states world d typed
 
--- a program that keeps E11, and its trees with each name bound, each of which has a typing. The trees may be grouped anew meanwhile: the data types stay
-pub record IsTypableProgram (program : PlainProgram Span) (bound : PlainProgram Bound) : Type 0 where
-  pub founded : recursive_or_empty program ≡ []
-  pub same_data : counts_of bound.declarations ≡ counts_of program.declarations
-  pub typable : AllByRecursion (IsTypable (world_of program.declarations)) bound.declarations
+abbrev pub IsTypingOrDefault : World → Declaration Bound → Declaration TypedNode → Type 0
+IsTypingOrDefault world d typed = (IsSomeTyping world d typed) ⊎ (IsDefault world d typed)
+
+-- each declaration has the typed one at its place
+abbrev pub AreTyped : (Declaration Bound → Declaration TypedNode → Type 0) → List (Declaration Bound) → List (Declaration TypedNode) → Type 0
+AreTyped Is [] [] = Unit {0}
+AreTyped Is (d ∷ ds) (t ∷ ts) = Is d t × AreTyped Is ds ts
+AreTyped Is _ _ = ⊥
+
+-- these are typings of a program's declarations; or each is one or a default typing
+abbrev pub AreTypingsOf : PlainProgram Span → List (Declaration TypedNode) → Type 0
+AreTypingsOf program typed = AreTyped (IsSomeTyping (world_of program.declarations)) (bound_program program).declarations typed
+
+abbrev pub AreTypingsOrDefaultsOf : PlainProgram Span → List (Declaration TypedNode) → Type 0
+AreTypingsOrDefaultsOf program typed = AreTyped (IsTypingOrDefault (world_of program.declarations)) (bound_program program).declarations typed

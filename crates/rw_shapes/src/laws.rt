@@ -4,7 +4,6 @@ ghost use Rattle.std.specs.List.{AllByRecursion};
 ghost use Rattle.rw_base.specs.declared.place.Place.{Place};
 ghost use Rattle.rw_base.specs.declared.place.Span.{Span};
 ghost use Rattle.rw_tree.specs.Declarations.{Declaration, PlainProgram};
-ghost use Rattle.rw_scoping.specs.declared.binding.Bound.{Bound};
 ghost use Rattle.rw_scoping.specs.Bindings.{bound_program};
 ghost use Rattle.rw_scoping.specs.Kinds.{recursive_or_empty};
 ghost use Rattle.rw_scoping.specs.Verdict.{IsScoped};
@@ -17,7 +16,7 @@ ghost use Rattle.rw_coverage.specs.Coverage.{AreUncovered, groups_of};
 ghost use Rattle.rw_cover.specs.Correct.{AllHaveTypes, IsCovered};
 ghost use Rattle.rw_shapes.specs.Shapes.{HasShape, fields_in};
 ghost use Rattle.rw_shapes.specs.Columns.{AllMatch, HaveInstances, StandAt, columns_of, untyped, world_in};
-ghost use Rattle.rw_shapes.specs.Typed.{AreTypedAs, IsTypableProgram};
+ghost use Rattle.rw_shapes.specs.Typed.{AreTypingsOf, AreTypingsOrDefaultsOf, IsTypableProgram};
 
 use rw_cover::places_law;
 
@@ -45,18 +44,23 @@ pub fn shape_law()
     ensures one { (world : World) (variables unknowns : ℕ → Shape) (type : Ty) (shape other : Shape) → HasShape (fields_in world) variables unknowns shape type → HasShape (fields_in world) variables unknowns other type → shape ≡ other }
 {}
 
-/// So the rows of each group of a program that keeps E11 may stand at some types, if each declaration has a typing, and
-/// those of a scoped program of which typings or default typings are given.
+/// So the rows of each group of a program that keeps E11 may stand at some types, if each declaration has a typing.
 pub fn typable_law()
-    ensures typable { (program : PlainProgram Span) (bound : PlainProgram Bound) → IsTypableProgram program bound → AllHaveTypes (groups_of bound) }
-    ensures scoped { (program : PlainProgram Span) (typed : List (Declaration TypedNode)) → IsScoped program → AreTypedAs (world_of program.declarations) (bound_program program).declarations typed → AllHaveTypes (groups_of (bound_program program)) }
+    ensures typable { (program : PlainProgram Span) → recursive_or_empty program ≡ [] → IsTypableProgram program → AllHaveTypes (groups_of (bound_program program)) }
+    ensures typed { (program : PlainProgram Span) (typed : List (Declaration TypedNode)) → IsScoped program → AreTypingsOrDefaultsOf program typed → AllHaveTypes (groups_of (bound_program program)) }
 {}
 
-/// So rule E14 is exact for such programs: at most one list of places is where their groups don't cover, which is what `cover`
-/// of `rw_cover` answers by.
+/// So rule E14 is exact for such a program: its groups are uncovered at one list of places at most, and that is what `cover` of
+/// `rw_cover` answers by.
 pub fn exact_law()
-    ensures typable { (program : PlainProgram Span) (bound : PlainProgram Bound) → IsTypableProgram program bound → (places others : List Place) → AreUncovered (groups_of bound) places → AreUncovered (groups_of bound) others → places ≡ others }
-    ensures scoped { (program : PlainProgram Span) (typed : List (Declaration TypedNode)) → IsScoped program → AreTypedAs (world_of program.declarations) (bound_program program).declarations typed → (places others : List Place) → AreUncovered (groups_of (bound_program program)) places → AreUncovered (groups_of (bound_program program)) others → places ≡ others }
+    ensures typable { (program : PlainProgram Span) → recursive_or_empty program ≡ [] → IsTypableProgram program → (places others : List Place) → AreUncovered (groups_of (bound_program program)) places → AreUncovered (groups_of (bound_program program)) others → places ≡ others }
+    ensures typed { (program : PlainProgram Span) (typed : List (Declaration TypedNode)) → IsScoped program → AreTypingsOrDefaultsOf program typed → (places others : List Place) → AreUncovered (groups_of (bound_program program)) places → AreUncovered (groups_of (bound_program program)) others → places ≡ others }
 {
     places_law();
 }
+
+/// And where the groups of a program cover, all values of the columns' types in typings of its declarations match a row, at every
+/// closed instance.
+pub fn typings_law()
+    ensures { (program : PlainProgram Span) (typed : List (Declaration TypedNode)) → AreTypingsOf program typed → AllByRecursion IsCovered (groups_of (bound_program program)) → AllMatch (world_of program.declarations) (groups_of (bound_program program)) (columns_of typed) }
+{}
