@@ -82,7 +82,11 @@ module _ (world : World) (counts : List ℕ) (is : IsWorld world counts) (variab
   -- a constructor at its data type
   at_data : (n place : ℕ) (s : Scheme) (arguments types : List Ty) (parts : PlainPatterns) → slice_get (get_or world.constructed n []) place ≡ Some s → types ≡ map (apply (given arguments)) s.takes
       → ((columns : Shapes) → Have columns types → ArePartsOf parts columns) → (shape : Shape) → Has shape (data_type n arguments) → IsOfShape (constructed place (get_or counts n 0) parts) shape
-  at_data n place s arguments types parts found are stand opaque h = absurd h
+  at_data n place s arguments types parts found are stand opaque h =
+      let there : slice_get (fields_in world n) place ≡ Some s.takes = slice_get-map (λ (x : Scheme). x.takes) (get_or world.constructed n []) place s found in
+      let empty : List (List Ty) = [] in
+      let none : slice_get empty place ≡ Some s.takes = subst (λ (all : List (List Ty)). slice_get all place ≡ Some s.takes) h there in
+      absurd (cc)
   at_data n place s arguments types parts found are stand (data_of choices) h =
       let have = subst (λ (ts : List Ty). HaveChoices (fields_in world) variables unknowns choices ts (fields_in world n)) (listed-tys arguments) h in
       let takes : Scheme → List Ty = λ (x : Scheme). x.takes in

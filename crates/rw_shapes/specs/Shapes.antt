@@ -18,15 +18,17 @@ listed none = []
 listed (more t ts) = t ∷ listed ts
 
 -- A closed instance of a type is given by what its variables and its unknown types stand for. Of these only the shapes matter here.
--- Of a function or a computation nothing can be matched; a data type has its constructors, each with its fields' types, where the
--- arguments stand for the variables of its head; a tuple has one. A monad or a layer has no shape: no value is of it
+-- A data type has its constructors, each with its fields' types, where the arguments stand for the variables of its head; a tuple has one.
+-- Of a function or a computation nothing can be matched, nor of a monad or a layer, which no value is of. Nor of a data type without
+-- constructors: in a program that keeps E11 that is a number which no declaration has, as a typing may choose for what it leaves open
 module _ (fields : ℕ → List (List Ty)) (variables unknowns : ℕ → Shape) where
   abbrev mutual
     pub HasShape : Shape → Ty → Type 0
     HasShape shape (var x) = shape ≡ variables x
     HasShape shape (app (h.Unknown k) parts) = shape ≡ unknowns k
-    HasShape opaque (app h.Fun parts) = Unit {0}
-    HasShape opaque (app h.Comp parts) = Unit {0}
+    HasShape opaque (app h.Tuple parts) = ⊥
+    HasShape opaque (app (h.Data n) parts) = fields n ≡ []
+    HasShape opaque _ = Unit {0}
     HasShape (data_of choices) (app (h.Data n) parts) = HaveChoices choices (listed parts) (fields n)
     HasShape (data_of (one_choice columns)) (app h.Tuple parts) = HaveShapes columns (listed parts)
     HasShape _ _ = ⊥

@@ -8,4 +8,6 @@
 
 mod laws;
 
-pub use laws::{instances_law, typed_rows_law, values_law};
+pub use laws::{
+    exact_law, instances_law, shape_law, typable_law, typed_rows_law, typings_law, values_law,
+};
