@@ -2,10 +2,11 @@
 pub mod Basics
 pub mod Tables
 pub mod Agree
-pub mod Laws
+pub mod Joining
 pub mod Planned
 pub mod Walking
 pub mod Using
 pub mod Whole
 pub mod Mentioned
 pub mod Circles
+pub mod Ways

@@ -6,7 +6,7 @@ use Rattle.rw_tree.specs.Types.{WrittenType, WrittenTypes, variable_type, constr
 use Rattle.rw_scoping.specs.Names.{Bytes}
 use Rattle.rw_scoping.specs.Kinds.{Uses, both, at_kinds, all_plain, variable_uses, constructor_uses, whole_type, uses_of, parts_uses}
 use Rattle.rw_kinds.specs.Spine.{PlainHead, variable_head, constructor_head, other_head, head_of, has_types, is_applied, count_types, variable_kind, variable_takes, none_left, inner_uses, IsPlanned}
-use Rattle.rw_kinds.proofs.Laws.{both_assoc, both_nothing, nothing_both, both_none, split_kinds}
+use Rattle.rw_kinds.proofs.Joining.{both_assoc, both_nothing, nothing_both, both_none, split_kinds}
 
 abbrev has_some : List (Kind → Uses) → Bool
 has_some [] = false

@@ -11,7 +11,7 @@ use Rattle.rw_scoping.specs.Names.{Bytes}
 use Rattle.rw_scoping.specs.Kinds.{Uses, both, at_kinds, uses_of, parts_uses}
 use Rattle.rw_kinds.specs.Spine.{is_applied, count_types, inner_uses, if_fit}
 use Rattle.rw_kinds.proofs.Basics.{clash}
-use Rattle.rw_kinds.proofs.Laws.{both_none, then_wrong, then_more, unlike}
+use Rattle.rw_kinds.proofs.Joining.{both_none, then_wrong, then_more, unlike}
 
 pub on_ok : {T E : Type 0} {P Q : T → Type 0} (r : Result T E) → ((x : T) → P x → Q x) → IfOk r P → IfOk r Q
 on_ok (Ok x) f h = f x h

@@ -18,7 +18,7 @@ use Rattle.rw_kinds.specs.Spine.{plain_uses, if_fit}
 use Rattle.rw_kinds.specs.Agreeing.{agree_after}
 use Rattle.rw_kinds.specs.Contexts.{takes_in, IsOfSignatures, IsOfFields, fits_field, fits_signature, wrong_in_declaration, wrong_in_node}
 use Rattle.rw_kinds.proofs.Tables.{by_itself}
-use Rattle.rw_kinds.proofs.Laws.{nothing_both}
+use Rattle.rw_kinds.proofs.Joining.{nothing_both}
 use Rattle.rw_kinds.proofs.Agree.{agree_all}
 
 module _ (decls : List (Declaration Span)) where

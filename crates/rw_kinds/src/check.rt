@@ -11,7 +11,7 @@ ghost use Rattle.rw_kinds.specs.Spine.{variable_kind as kind_of_variable, variab
 use crate::context::Context;
 use crate::head::{Head, head_of, is_applied};
 use crate::uses::Use;
-use rw_base::{Name, OutOfMemory};
+use rw_base::OutOfMemory;
 use rw_tree::{Kind, Written};
 use sqlite_items::Boxed;
 

@@ -9,6 +9,7 @@
 mod check;
 mod context;
 mod head;
+mod laws;
 mod mentions;
 mod recursive;
 mod table;
@@ -16,6 +17,7 @@ mod uses;
 mod variables;
 mod wrong;
 
+pub use laws::recursion_law;
 pub use recursive::recursive_or_empty;
 pub use wrong::misused;
 
