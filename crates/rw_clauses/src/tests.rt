@@ -56,6 +56,9 @@ fn frames_need_room(rt: HostRuntime) -> Result<(), Fail> {
     assert_eq!(rt; clause(alloc, 3, text)?, (true, 1));
     assert_eq!(rt; clause(alloc, 2, text)?, (false, 1));
     assert_eq!(rt; clause(alloc, 0, text)?, (false, 1));
+    let text = b"f = \\x -> \\y -> \\z -> x ;";
+    assert_eq!(rt; clause(alloc, 3, text)?, (true, 1));
+    assert_eq!(rt; clause(alloc, 2, text)?, (false, 1));
     Ok(())
 }
 
