@@ -45,9 +45,9 @@ module _ {A X : Type 0} (frames : A → ℕ) (look : A → X) (room more : ℕ) 
       → (count < more → found ≡ Some a) → (more ≤ count → (room < more) × (found ≡ None)) → cut frames room p ≡ Some (found, rest)
   room_is _ _ a rest found count neither e c f g = absurd (cc)
   room_is _ _ a rest found count (both x y next s) e c f g =
-      let q : (x, next) ≡ (a, rest) = some_is (x, next) (a, rest) e in
-      let same : x ≡ a = ap (λ z. z.0) q in
-      let behind : next ≡ rest = ap (λ z. z.1) q in
+      let q : (let p : A × List Lexeme = (x, next) in p) ≡ (a, rest) = some_is (x, next) (a, rest) e in
+      let same : x ≡ a = ap (λ (z : A × List Lexeme). z.0) q in
+      let behind : next ≡ rest = ap (λ (z : A × List Lexeme). z.1) q in
       let small : Small frames look more a y = subst (λ z. Small frames look more z y) same s in
       elim (below_or (frames a) more) [
         | inl i ↦ (let k : count < more = omega arith in ap (λ z. Some (z, next)) (fits_is a y small i ∙ sym (f k)) ∙ ap (λ z. Some (found, z)) behind)

@@ -117,10 +117,10 @@ module _ (room : ℕ) (f g : List Lexeme → Read (Expr Span)) (inner : (ts : Li
         (together_if (sees m.Let ts) _ _ _ _ (let_head_small (drop 1 ts)) (if_head_small (drop 1 ts)))
 
 -- ---- steps
--- a step with its last part, if it has one
 most_alone : (n : ℕ) → max n 0 ≡ n
 most_alone n = omega arith
 
+-- the last part follows
 abbrev pub is_open : Step → Bool
 is_open (step.Whole tree) = false
 is_open (step.Opens frame) = true

@@ -20,3 +20,6 @@ mod side;
 mod statement;
 
 pub use read::{read_clause, read_expression, read_locals};
+
+#[cfg(test)]
+mod tests;

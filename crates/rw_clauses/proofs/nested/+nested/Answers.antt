@@ -1,3 +1,4 @@
+-- The turns of the loop over frames, and a block over one level less.
 use Rattle.std.proofs.Common.{rules, ◌≡◌, ℕ, ◌+◌, ◌-◌, Bool, List, ap, sym, ◌∙◌, arith, Some}
 use Rattle.std.proofs.lemmas.Result.{err_from_is_err_and}
 use Rattle.rw_patterns.proofs.Turns.{fails_on}

@@ -1,3 +1,4 @@
+-- Levels go down, and what the loop over frames keeps.
 use Rattle.std.proofs.Common.{◌≡◌, ◌-◌, true}
 use Rattle.rw_expressions.specs.Within.{expression_within}
 use Rattle.rw_expressions.proofs.Frames.{under}

@@ -1,3 +1,4 @@
+-- A clause is kept where there is room for its frames.
 use Rattle.std.proofs.Common.{length, arith}
 use Rattle.std.proofs.lemmas.Result.{err_from_is_err_and}
 use Rattle.rw_clauses.specs.Clause.{frames_of_clause}

@@ -1,3 +1,4 @@
+-- An expression is kept where there is room for its frames.
 use Rattle.std.proofs.Common.{length, arith}
 use Rattle.std.proofs.lemmas.Result.{err_from_is_err_and}
 use Rattle.rw_grammar.specs.Frames.{frames_of_expression}

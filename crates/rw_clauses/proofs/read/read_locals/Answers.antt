@@ -1,3 +1,4 @@
+-- A block is kept where there is room for its frames.
 use Rattle.std.proofs.Common.{◌∙◌, ap, min, length, arith}
 use Rattle.std.proofs.lemmas.Result.{err_from_is_err_and}
 use Rattle.rw_grammar.specs.Frames.{most, frames_of_local}

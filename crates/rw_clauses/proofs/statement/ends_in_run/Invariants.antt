@@ -1,3 +1,4 @@
+-- What the loop over statements keeps.
 use Rattle.std.proofs.Common.{◌≡◌, drop}
 use Rattle.rw_grammar.specs.Clauses.{ends_in_run}
 use Rattle.rw_clauses.proofs.Runs.{ends_behind}

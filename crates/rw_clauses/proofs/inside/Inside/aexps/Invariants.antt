@@ -1,3 +1,4 @@
+-- What the loop over arguments keeps.
 use Rattle.std.proofs.Common.{◌≡◌, length, ◌-◌}
 use Rattle.rw_grammar.specs.Read.{many_at}
 use Rattle.rw_grammar.specs.ReadExpressions.{begins_aexp, aexp_at}

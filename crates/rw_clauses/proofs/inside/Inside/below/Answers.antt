@@ -1,3 +1,4 @@
+-- An expression one level below.
 use Rattle.std.proofs.Common.{rules, ◌≡◌, ◌+◌, ◌-◌, pred, arith}
 use Rattle.rw_clauses.proofs.Beneath.{expression_beneath_none, expression_beneath_some}
 use Rattle.rw_clauses.proofs.inside.Inside.below.Goals as goal

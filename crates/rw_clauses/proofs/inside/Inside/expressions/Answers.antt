@@ -1,3 +1,4 @@
+-- The turns of the loop over expressions with commas between.
 use Rattle.std.proofs.Common.{rules, ◌≡◌, length, ◌+◌, ◌-◌, true, false, drop, ap, sym, ◌∙◌, arith, Some, List}
 use Rattle.std.proofs.lemmas.Result.{err_from_is_err_and}
 use Rattle.rw_base.specs.declared.place.Span.{Span}

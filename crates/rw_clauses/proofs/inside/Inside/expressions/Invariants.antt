@@ -1,3 +1,4 @@
+-- What the loop over expressions with commas between keeps.
 use Rattle.std.proofs.Common.{◌≡◌, length, ◌-◌}
 use Rattle.rw_grammar.specs.Read.{separated_at}
 use Rattle.rw_grammar.specs.declared.lexeme.Mark.TheVariants as m

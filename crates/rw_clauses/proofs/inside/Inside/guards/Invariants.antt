@@ -1,3 +1,4 @@
+-- What the loop over guards keeps.
 use Rattle.std.proofs.Common.{◌≡◌, length, ◌-◌}
 use Rattle.rw_grammar.specs.Read.{sees, many_at}
 use Rattle.rw_grammar.specs.declared.lexeme.Mark.TheVariants as m

@@ -1,3 +1,4 @@
+-- What the loop over operands and operators keeps.
 use Rattle.std.proofs.Common.{◌≡◌, length, ◌-◌}
 use Rattle.rw_expressions.specs.Steps.{links_at}
 use Rattle.rw_clauses.specs.Inside.{operand_inside}

@@ -1,3 +1,4 @@
+-- A block one level below.
 use Rattle.std.proofs.Common.{rules, ◌≡◌, ◌+◌, ◌-◌, arith}
 use Rattle.rw_clauses.proofs.Beneath.{locals_beneath_none, locals_beneath_some}
 use Rattle.rw_clauses.proofs.inside.Inside.lower.Goals as goal
