@@ -15,3 +15,4 @@ pub mod ClauseArms
 pub mod Closed
 pub mod StepArms
 pub mod Loops
+pub mod Own

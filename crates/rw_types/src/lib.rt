@@ -6,6 +6,7 @@
 #![tactic(auto)]
 
 mod clause;
+mod declaration;
 mod equation;
 mod expr;
 mod group;
@@ -21,7 +22,9 @@ mod statement;
 mod step;
 mod written;
 
+pub use declaration::add_declaration;
 pub use equation::Equation;
+pub use expr::add_expression;
 pub use locals::Locals;
 pub use numbered::Numbered;
 pub use operations::operation_scheme;
