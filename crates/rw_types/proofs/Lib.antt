@@ -16,3 +16,5 @@ pub mod Closed
 pub mod StepArms
 pub mod Loops
 pub mod Own
+pub mod Solving
+pub mod Typed
