@@ -10,7 +10,7 @@ use Rattle.rw_scoping.specs.Kinds.{data_mentions, mentioned_by, ill_founded}
 use Rattle.rw_solving.specs.declared.term.Head.{Head}
 use Rattle.rw_solving.specs.declared.term.Head.TheVariants as h
 use Rattle.rw_solving.specs.Types.{Ty, var, app, Tys, none, more, tys}
-use Rattle.rw_typing.specs.Written.{data_types_from, variable_applied, identity_applied, state_applied, device_applied, data_applied, constructor_applied, type_applied, types_of, type_of, position}
+use Rattle.rw_typing.specs.Written.{data_types_from, variable_applied, identity_applied, state_applied, device_applied, data_applied, constructor_applied, type_applied, types_of, type_of, variable_from}
 use Rattle.rw_typing.specs.Schemes.{Scheme, constructor_scheme, constructor_schemes, constructed_from}
 use Rattle.rw_shapes.proofs.Names.{true_or_false, In, in_front, in_back, in_parts}
 use Rattle.rw_shapes.proofs.Founded.{NameEnds, mentions_some, each_ends, none_recursive}
@@ -76,6 +76,10 @@ module _ (P : ℕ → Type 0) where
   device_all (i ∷ o ∷ m ∷ t ∷ []) a = (tt, ((tt, ((tt, (a.0, (a.1.0, tt))), (a.1.1.0, tt))), (a.1.1.1.0, tt)))
   device_all (i ∷ o ∷ m ∷ t ∷ u ∷ us) a = (tt, tt)
 
+  from_all : (n : ℕ) (x : Bytes) (ys : List Bytes) → AllData (variable_from n x ys)
+  from_all n x [] = (tt, tt)
+  from_all n x (y ∷ ys) = of_if (same_name x y) (var n) (variable_from (suc n) x ys) tt (from_all (suc n) x ys)
+
   data_all : (n : Option ℕ) (arguments : List Ty) → ((m : ℕ) → n ≡ Some m → P m) → AllTypes arguments → AllData (data_applied n arguments)
   data_all None arguments p a = (tt, tt)
   data_all (Some m) arguments p a = (p m refl, in_tys arguments a)
@@ -95,7 +99,7 @@ module _ (P : ℕ → Type 0) where
 
     mutual
       applied_all : (w : WrittenType) (arguments : List Ty) → Known (type_constructors w) → AllTypes arguments → AllData (type_applied types params w arguments)
-      applied_all (variable_type x) arguments known a = variable_all (var (position x params)) arguments tt a
+      applied_all (variable_type x) arguments known a = variable_all (variable_from 0 x params) arguments (from_all 0 x params) a
       applied_all (constructor_type c) arguments known a = constructor_all c arguments (λ m e. known c m (inl refl) e) a
       applied_all (applied_type head parts) arguments known a =
           applied_all head (types_of types params parts ++ arguments) (λ c m i e. known c m (in_front c (type_constructors head) (types_constructors parts) i) e)
