@@ -2,7 +2,7 @@
 //! Report, chapter 3, sections 4.4.3 and 10.5, in this project's profile).
 //!
 //! It meets the definitions of `rw_grammar`, and leaves whole programs and the grouping of operators to the crates above.
-//! The readers of items stand on it. Begin with `inside.rt`, where brackets go down; each of the other files reads one
+//! The readers of items stand on it. Begin with `frame.rt`, the parts that a tree is built of; each of the other files reads one
 //! kind of thing over the readers of what stands inside. The grammar rule stands above each function.
 #![tactic(auto)]
 

@@ -1,6 +1,5 @@
 -- Data types and signatures are read alike with a level for each token of theirs and with any more.
 use Rattle.std.proofs.Common.{◌≡◌, ℕ, suc, ◌≤◌, List, [], ◌∷◌, length, drop, refl, sym, arith}
-use Rattle.rw_base.specs.declared.place.Span.{Span}
 use Rattle.rw_tree.specs.declared.types.Written.{Written}
 use Rattle.rw_grammar.specs.declared.lexeme.Lexeme.{Lexeme}
 use Rattle.rw_grammar.specs.declared.lexeme.Mark.TheVariants as m

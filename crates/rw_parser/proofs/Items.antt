@@ -1,10 +1,9 @@
 -- An item is read as the functions on lists say, with its tree kept where it has 512 frames at most.
-use Rattle.std.proofs.Common.{◌≡◌, ◌∙◌, ℕ, suc, max, ◌≤◌, Bool, true, false, cond, ◌||◌, List, [], ◌∷◌, length, Option, Some, None, refl, sym, ap, arith, nat_le, codes, inl, inr}
+use Rattle.std.proofs.Common.{◌≡◌, ◌∙◌, ℕ, ◌≤◌, List, length, Some, None, refl, sym, ap, nat_le, codes, inl, inr}
 use Rattle.std.proofs.lemmas.Bool.{cases_Bool}
 use Rattle.rw_base.specs.declared.place.Span.{Span}
 use Rattle.rw_tree.specs.declared.clause.Alt.{Alt}
 use Rattle.rw_tree.specs.declared.decl.Decl.{Decl}
-use Rattle.rw_grammar.specs.declared.item.Item.{Item}
 use Rattle.rw_grammar.specs.declared.item.Item.TheVariants as i
 use Rattle.rw_grammar.specs.declared.lexeme.Mark.TheVariants as m
 use Rattle.rw_grammar.specs.declared.lexeme.Lexeme.{Lexeme}
@@ -15,7 +14,6 @@ use Rattle.rw_grammar.specs.ReadTypes.{type_at}
 use Rattle.rw_grammar.specs.ReadDeclarations.{module_name_at, behind_word, behind_as, exports_at, import_at, side_at, strength_at, operator_name_at, fixity_at, data_at, newtype_at, data_or_newtype_at, signature_at, whole_item, begins_signed, begins_fixity, named_item_at, item_over_at, item_at}
 use Rattle.rw_grammar.specs.ReadLevels.{clause_over, expression_at, locals_at}
 use Rattle.rw_grammar.proofs.ReadExact.{bind_some, moved}
-use Rattle.rw_patterns.specs.Depth.{any_type_at}
 use Rattle.rw_items.specs.Kept.{data_kept, newtype_kept, signature_kept}
 use Rattle.rw_items.proofs.Cut.{data_cut, newtype_cut, signature_cut}
 use Rattle.rw_parser.specs.Clauses.{frames_of_clause}

@@ -1,6 +1,8 @@
--- Proofs: what one item and one run are, and the whole.
+-- Proofs: what one item and one run are, the runs and their frame, and the whole.
 pub mod Agree
 pub mod Items
-pub mod Spelled
-pub mod Whole
 pub mod NamedItems
+pub mod Spelled
+pub mod Turns
+pub mod Framed
+pub mod Whole

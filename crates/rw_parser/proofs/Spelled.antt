@@ -1,5 +1,5 @@
 -- One run, from what its item is if it is kept.
-use Rattle.std.proofs.Common.{◌≡◌, ◌∙◌, ℕ, ◌≤◌, Bool, true, false, cond, List, [], ◌∷◌, length, Option, Some, None, Result, Ok, Err, refl, sym, ap, subst, inl, inr}
+use Rattle.std.proofs.Common.{◌≡◌, ◌∙◌, ℕ, ◌≤◌, Bool, true, false, cond, List, [], ◌∷◌, length, Option, Some, None, Err, refl, sym, ap}
 use Rattle.rw_base.specs.declared.place.Place.{Place}
 use Rattle.rw_grammar.specs.declared.item.Item.{Item}
 use Rattle.rw_grammar.specs.declared.lexeme.Lexeme.{Lexeme}

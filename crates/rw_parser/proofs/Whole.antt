@@ -1,46 +1,33 @@
 -- The whole: what is answered of tokens, from what is kept of their items.
-use Rattle.std.proofs.Common.{◌≡◌, ◌∙◌, ℕ, ◌≤◌, List, [], ◌∷◌, length, is_some, true, false, Option, Some, None, Result, Ok, Err, refl, sym, ap, subst, ◌⊎◌, inl, inr}
+use Rattle.std.proofs.Common.{◌≡◌, ◌∙◌, ℕ, ◌≤◌, List, [], length, Option, Some, None, Result, Ok, Err, refl, sym, ap, subst, inl, inr, arith}
 use Rattle.rw_base.specs.declared.place.Place.{Place}
 use Rattle.rw_base.specs.declared.place.Span.{Span}
 use Rattle.rw_base.specs.declared.fail.Fail.{Fail}
 use Rattle.rw_base.specs.declared.fail.Fail.TheVariants as fail
 use Rattle.rw_base.specs.declared.fail.Refusal.{Refusal}
 use Rattle.rw_base.specs.declared.rule.Rule.TheVariants as rule
+use Rattle.rw_tree.specs.declared.decl.Decl.{Decl}
+use Rattle.rw_tree.specs.declared.types.TyNode.{TyNode}
 use Rattle.rw_tree.specs.declared.program.Program.{Program}
 use Rattle.rw_lex.specs.declared.token.Token.{Token}
 use Rattle.rw_grammar.specs.declared.item.Item.{Item}
-use Rattle.rw_grammar.specs.declared.lexeme.Mark.TheVariants as m
 use Rattle.rw_grammar.specs.declared.lexeme.Lexeme.{Lexeme}
 use Rattle.rw_grammar.specs.Chains.{strength_of_name}
 use Rattle.rw_grammar.specs.Lexemes.{lexemes}
-use Rattle.rw_grammar.specs.Grammar.{Spells, IsNotOfTheGrammar, first_place}
-use Rattle.rw_grammar.specs.Read.{◌>>=◌, after}
-use Rattle.rw_grammar.specs.ReadProgram.{header_at, runs_at, frame_at, items_at, program_at, framed}
+use Rattle.rw_grammar.specs.Grammar.{Spells, IsNotOfTheGrammar, first_place, declarations_of, item_groups}
+use Rattle.rw_grammar.specs.ReadProgram.{frame_at, items_at, program_at, framed}
 use Rattle.rw_grammar.specs.Resolution.{IsProgramResolved, FirstDeclarationBroken}
 use Rattle.rw_grammar.specs.Shallow.{of_items, shallow, first_deep}
 use Rattle.rw_grammar.proofs.Frames.{one_program}
-use Rattle.rw_grammar.proofs.ReadProgram.{items_sound, program_sound, place_sound, unframed, no_two_answers, one_place_of}
+use Rattle.rw_grammar.proofs.ReadProgram.{items_sound, program_sound, place_sound, unframed, no_two_answers, one_place_of, count_from}
 use Rattle.rw_grammar.proofs.Shallow.{NoFunctions, items_no_functions, none_deep, earlier_broken, deep_broken}
 use Rattle.rw_chains.proofs.Programs as chain
 use Rattle.rw_fixity.specs.Found.{Answers}
+use Rattle.rw_runs.specs.Joined.{closed}
+use Rattle.rw_runs.proofs.Keeping.{kept_declarations, kept_deep}
 use Rattle.rw_runs.specs.Shallow.{Kept, nothing, keeping, kept_behind}
 use Rattle.rw_parser.specs.Reading as reading
-use Rattle.rw_parser.specs.Frame.{frame_tokens, kept_framed, Grouped, IsBroken, Parses}
-
--- ---- the frame
-frame_by : (o : Option (List Lexeme)) → (o >>= (λ r. after m.OpensBlock r >>= (λ x. runs_at (length x) x))) ≡ ((o >>= (λ r. after m.OpensBlock r)) >>= (λ x. runs_at (length x) x))
-frame_by None = refl
-frame_by (Some r) = refl
-
-pub frame_is : (ts : List Lexeme) → frame_at ts ≡ (frame_tokens ts >>= (λ x. runs_at (length x) x))
-unfolding frame_at frame_tokens
-frame_is ts = frame_by (header_at ts)
-
-pub no_frame : (ts : List Lexeme) → frame_tokens ts ≡ None → frame_at ts ≡ None
-no_frame ts e = frame_is ts ∙ ap (λ z. z >>= (λ x. runs_at (length x) x)) e
-
-pub a_frame : (ts rest : List Lexeme) → frame_tokens ts ≡ Some rest → frame_at ts ≡ runs_at (length rest) rest
-a_frame ts rest e = frame_is ts ∙ ap (λ z. z >>= (λ x. runs_at (length x) x)) e
+use Rattle.rw_parser.specs.Frame.{kept_framed, Grouped, Parses}
 
 -- ---- what was read
 pub record Items (n : ℕ) (tokens : List Token) (found : Kept) : Type 0 where
@@ -109,21 +96,29 @@ pub failed : (n : ℕ) (tokens : List Token) (e : Fail) → length tokens ≤ n 
 failed n tokens (fail.Refused refusal) l h = (h.0, inl (place_sound n tokens refusal.place l (place_found n tokens refusal.place (frame_at (lexemes tokens)) refl h.1)))
 failed n tokens fail.OutOfMemory l h = tt
 
+-- ---- the tokens as the grammar sees them
+module _ (tokens : List Token) (ts : List Lexeme) (same : ts ≡ lexemes tokens) where
+  pub within : length ts ≤ length tokens
+  within = let c = count_from 0 tokens in let l = ap length same in omega arith
+
+  pub broken_parse : (e : Fail) → reading.Answers (Err e) (kept_framed (length tokens) ts (frame_at ts)) → Parses tokens (Err e)
+  broken_parse e h = failed (length tokens) tokens e (omega arith) (subst (λ z. reading.Answers (Err e) (kept_framed (length tokens) z (frame_at z))) same h)
+
+  pub whole_parse : (found : Kept) (decls : List (Decl Span)) (types : List TyNode) (result : Result (Program Span) Fail) → kept_framed (length tokens) ts (frame_at ts) ≡ Ok found → decls ≡ closed found.0 → types ≡ []
+      → Grouped (record { decls = decls; types = types }) found.1 result → Parses tokens result
+  whole_parse found decls types result e d t g =
+      let f : kept_framed (length tokens) (lexemes tokens) (frame_at (lexemes tokens)) ≡ Ok found = subst (λ z. kept_framed (length tokens) z (frame_at z) ≡ Ok found) same e in
+      let items = items_found (length tokens) tokens found (frame_at (lexemes tokens)) refl f in
+      let joined : closed found.0 ≡ declarations_of (item_groups (shallow items.items)) = ap (λ z. closed z.0) items.kept_of ∙ kept_declarations items.items in
+      let deep : found.1 ≡ first_deep items.items = ap (λ z. z.1) items.kept_of ∙ kept_deep items.items in
+      answered (length tokens) tokens found items (record { decls = decls; types = types }) found.1 result (λ i. record { decls = (d ∙ joined) i; types = t i }) deep g
+
 -- ---- grouping
 pub grouped_failed : (program : Program Span) (deep : Option Place) (e : Fail)
     → ((refusal : Refusal) → ◌≡◌ {A = Result (Program Span) Fail} (Err e) (Err (fail.Refused refusal)) → (refusal.rule ≡ rule.E05) × FirstDeclarationBroken (strength_of_name program.decls) program.decls refusal.place) → Grouped program deep (Err e)
 grouped_failed program deep fail.OutOfMemory h = tt
 grouped_failed program None (fail.Refused refusal) h = h refusal refl
 grouped_failed program (Some at) (fail.Refused refusal) h = let p = h refusal refl in (p.0, inl p.1)
-
--- ---- an option that is there
-pub some_of : {A : Type 0} (o : Option A) → is_some o ≡ true → (a : A) × (o ≡ Some a)
-some_of None e = absurd (cc)
-some_of (Some a) e = (a, refl)
-
-pub none_of : {A : Type 0} (o : Option A) → is_some o ≡ false → o ≡ None
-none_of None e = refl
-none_of (Some a) e = absurd (cc)
 
 -- ---- both ways
 module _ (tokens : List Token) where

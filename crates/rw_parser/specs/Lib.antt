@@ -1,5 +1,6 @@
+-- What the contract of `parse` rests on.
+pub mod Frame
 -- What functions inside promise each other.
 pub mod Clauses
 pub mod Kept
 pub mod Reading
-pub mod Frame

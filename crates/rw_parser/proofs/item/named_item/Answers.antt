@@ -10,7 +10,6 @@ use Rattle.rw_items.specs.Kept.{signature_kept}
 use Rattle.rw_parser.specs.Clauses.{frames_of_clause}
 use Rattle.rw_parser.specs.Kept.{named_item_kept}
 use Rattle.rw_parser.proofs.NamedItems.{signed, not_signed, a_clause, no_clause}
-use Rattle.rw_parser.proofs.Whole as whole
 use Rattle.rw_parser.proofs.item.named_item.Goals as goal
 
 pub returns-in_err-decl : goal.returns-in_err-decl
