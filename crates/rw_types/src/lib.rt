@@ -1,7 +1,7 @@
-//! The inference of types, as far as it goes: the equations that say that a typed tree agrees.
+//! The equations that say that the types of a declaration agree, and their most general solution.
 //!
-//! It leaves what a typing is to `rw_typing`, and solving the equations to `rw_solving`.
-//! The front of the compiler is to use it. Each node of a tree has a variable, and each argument of an instance has one.
+//! It leaves what a typing is to `rw_typing`, the solving of equations to `rw_solving`, the numbers of nodes to `rw_numbering`, and the
+//! world of a program to `rw_world`. `rw_infer` uses it. Each node of a tree has a variable, and so has each argument of an instance.
 //! Begin with `numbered.rt` and `equation.rt`, then `specs/Numbered.antt` and `specs/Equations.antt`.
 #![tactic(auto)]
 

@@ -1,0 +1,4 @@
+-- What public contracts rest on.
+pub mod Inferred
+-- What functions inside promise each other.
+pub mod Inside

@@ -1,0 +1,45 @@
+// The default typing of a declaration.
+ghost use Rattle.std.specs.Prelude.{◌≡◌, IfOk, Err};
+ghost use Rattle.rw_tree.specs.Declarations.{declaration};
+ghost use Rattle.rw_typing.specs.Typings.{IsTypable, IsDefault};
+ghost use Rattle.rw_types.specs.Seen.{seen_world};
+ghost use Rattle.rw_infer.specs.Inferred.{seen};
+
+use crate::TypedDecl;
+use crate::own::kinds_at;
+use crate::place::label;
+use crate::solved::default_types;
+use rw_numbering::{
+    assignment_law, erased_law, instance_law, number_declaration, seen_law, typing_law,
+};
+use rw_scoping::Bound;
+use rw_solving::Failure;
+use rw_tree::Decl;
+use rw_types::World;
+use std::alloc::Global;
+
+/// The default typing of a declaration of a program whose names are of these types: the most general one, with leftover
+/// variables closed, `()` for a type, `I` for a monad and `StateT ()` for a layer (Haskell 2010 Report, sections 4.1.4, 4.4 and
+/// 4.5.4, with one type for each local name).
+///
+/// Refused only where it has no typing of types of at most 1,024 nodes. A declaration with 2^32 numbers counts as want of memory.
+pub fn infer_declaration(
+    alloc: Global,
+    decl: &Decl<Bound>,
+    world: &World,
+) -> Result<TypedDecl, Failure>
+    // Ok: the default typing.
+    ensures default { IfOk result (λ made. IsDefault (seen_world world.now) (declaration (λ a. a) decl.now) (seen made)) }
+    // Refused: there is no typing.
+    ensures refused { result ≡ Err Failure.Refused → IsTypable (seen_world world.now) (declaration (λ a. a) decl.now) → ⊥ }
+{
+    erased_law();
+    assignment_law();
+    typing_law();
+    instance_law();
+    seen_law();
+    let own = kinds_at(alloc, label(decl).bound, world)?;
+    let (tree, slots) = number_declaration(alloc, decl, world)?;
+    let types = default_types(alloc, &tree, world, slots.as_slice(), own.as_slice())?;
+    Ok(TypedDecl { tree, types })
+}

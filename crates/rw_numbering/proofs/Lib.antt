@@ -1,0 +1,4 @@
+-- Lemmas.
+pub mod Each
+pub mod Arms
+pub mod Typed

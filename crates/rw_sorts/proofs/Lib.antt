@@ -1,0 +1,2 @@
+-- Laws of sorts, which the crates above may cite.
+pub mod Sorting

@@ -1,0 +1,2 @@
+-- What functions inside promise each other.
+pub mod Testing

@@ -1,0 +1,5 @@
+-- What functions inside promise each other.
+pub mod Sights
+pub mod Parts
+pub mod Signatures
+pub mod Known
