@@ -1,0 +1,7 @@
+-- Lemmas about types, and about the names in trees.
+mod Types
+mod Lists
+mod Found
+mod Placed
+mod Answering
+mod Counted

@@ -1,0 +1,10 @@
+-- The first so far is that of the places from here on.
+use Rattle.std.proofs.Common.{◌≡◌, ◌≤◌, drop, length}
+use Rattle.rw_scoping.specs.Names.{earliest}
+use Rattle.rw_start.proofs.check.earliest.Given as goal
+
+abbrev pub invariant-loop-at : goal.invariant-loop-at
+invariant-loop-at l = record { within : l.at ≤ length l.places; first : l.first ≡ earliest (drop l.at l.places) }
+
+abbrev pub decreases-loop-at : goal.decreases-loop-at
+decreases-loop-at l = l.at

@@ -1,0 +1,9 @@
+-- What the loop keeps: the places of the declarations so far stand behind the old ones.
+use Rattle.std.proofs.Common.{◌≡◌, ◌++◌, take, map, flat_map}
+use Rattle.rw_tree.specs.Declarations.{declaration}
+use Rattle.rw_scoping.specs.Nodes.{declaration_nodes}
+use Rattle.rw_start.specs.Positions.{strays}
+use Rattle.rw_start.proofs.names.in_decls.Given as goal
+
+abbrev pub invariant-loop-decl : goal.invariant-loop-decl
+invariant-loop-decl l = l.places.items ≡ l.fn.places.items ++ strays l.start (flat_map declaration_nodes (map (declaration (λ a. a)) (take l.decl-index l.decls)))

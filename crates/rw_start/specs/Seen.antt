@@ -1,0 +1,21 @@
+-- Types, the declaration of `start` and its body without where they lie in memory.
+use denote.Ref.{Bor}
+use Rattle.std.specs.Prelude.{List, map, Option, Some, None}
+use Rattle.rw_scoping.specs.declared.binding.Bound.{Bound}
+use Rattle.rw_tree.specs.declared.types.Written.{Written}
+use Rattle.rw_tree.specs.Types.{WrittenType, written}
+use Rattle.rw_tree.specs.Trees.{alternative_of, LocalBindings}
+use Rattle.rw_meaning.specs.Systems.{Body}
+use Rattle.rw_start.specs.declared.start.Start.{Start}
+use Rattle.rw_start.specs.Start.{Start as PlainStart}
+
+abbrev pub seen_types : List (Bor Written) → List WrittenType
+seen_types types = map (λ t. written t.now) types
+
+abbrev pub plain_start : Start → PlainStart
+plain_start start = record { number = start.number; place = start.place; clauses = map (alternative_of (λ a. a)) start.clauses.now }
+
+-- what is bound after the `where` of a body, if there is one
+abbrev pub wheres_in : Option Body → Option (LocalBindings Bound)
+wheres_in None = None
+wheres_in (Some body) = Some body.wheres

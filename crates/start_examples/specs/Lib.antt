@@ -1,0 +1,2 @@
+-- Small programs, and what is broken in them.
+pub mod Programs
