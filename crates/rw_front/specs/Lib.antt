@@ -1,0 +1,4 @@
+-- The words that public contracts rest on.
+pub mod Stages
+pub mod Verdict
+pub mod Fronts
