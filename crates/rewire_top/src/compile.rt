@@ -1,8 +1,10 @@
 // `compile FILE OUT`: the load, the compiler, and the save as the last step.
 ghost use Rattle.std.specs.Prelude.{◌≡◌, ◌≢◌, ◌⊎◌, ◌∷◌, [], Some};
+ghost use Rattle.rw_base.specs.declared.rule.Rule.{Rule};
+ghost use Rattle.rw_base.specs.declared.place.Place.{Place};
 ghost use Rattle.rw_base.specs.Outside.{Files, Told, IfTold, Rose, OthersKept};
 ghost use Rattle.rewire_top.specs.Commands.{HoldsAll, Compile};
-ghost use Rattle.rewire_top.specs.Answers.{Compiles, CompilesInPart, IsNotOfTheForm, not_built, IsRefusal, IsLater};
+ghost use Rattle.rewire_top.specs.Answers.{Compiles, CompilesInPart, IsRefusedAs, IsLater};
 
 use crate::Status;
 use explicit_form::Unread;
@@ -10,7 +12,7 @@ use rw_base::{DeviceError, Place, Rule, Store};
 use std::alloc::Global;
 
 // One byte more than a source may have.
-const MOST_OF_SOURCE: usize = 262_145;
+pub const MOST_OF_SOURCE: usize = 262_145;
 
 // Compiles the source under `file`, and saves its text under `target`.
 pub fn compile<S: Store>(alloc: Global, file: &str, target: &str, store: &mut S) -> Status
@@ -22,8 +24,9 @@ pub fn compile<S: Store>(alloc: Global, file: &str, target: &str, store: &mut S)
     ensures kept { result ≢ Status.Ok → result ≢ Status.WriteFault → S.held store.new ≡ S.held store.old }
     ensures ok { result ≡ Status.Ok → Told (Compiles (Some (Compile file.now target.now))) (S.held store.old) (S.held store.new) }
     ensures part { result ≡ Status.WriteFault → Told (CompilesInPart (Some (Compile file.now target.now))) (S.held store.old) (S.held store.new) }
-    ensures refused { IsRefusal result → (result ≡ not_built) × IfTold (IsNotOfTheForm (Some (Compile file.now target.now))) (S.held store.old) }
-    ensures refused_where { (files : Files) → S.held store.old ≡ Some files → IsNotOfTheForm (Some (Compile file.now target.now)) files → (result ≡ not_built) ⊎ (result ≡ Status.ReadFault) ⊎ (result ≡ Status.OutOfMemory) }
+    ensures refused { (rule : Rule) (place : Place) → result ≡ Status.Refused rule place → IfTold (λ files. IsRefusedAs (Some (Compile file.now target.now)) files rule place) (S.held store.old) }
+    ensures refused_where { (files : Files) (rule : Rule) (place : Place) → S.held store.old ≡ Some files → IsRefusedAs (Some (Compile file.now target.now)) files rule place →
+        (result ≡ Status.Refused rule place) ⊎ (result ≡ Status.ReadFault) ⊎ (result ≡ Status.OutOfMemory) }
     ensures no_other { IsLater result → ⊥ }
 {
     let source = match store.load(alloc, file, MOST_OF_SOURCE) {

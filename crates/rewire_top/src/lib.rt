@@ -1,4 +1,4 @@
-//! The program's one call: it reads the words, loads, compiles and saves, or simulates and prints, and answers with a status, whose line it
+//! The program's one call: it reads the words, loads, checks, or compiles and saves, or simulates and prints, and answers with a status, whose line it
 //! puts to `err`.
 //!
 //! It leaves every language to the crates below, and the system's files and streams to `rewire_cli`, whose `main`
@@ -6,6 +6,7 @@
 //! Begin with the clauses of `rewire` in `top.rt`, then `specs/Commands.antt` and `specs/Answers.antt`.
 #![tactic(auto)]
 
+mod check;
 mod compile;
 mod line;
 mod simulated;
@@ -16,6 +17,8 @@ mod words;
 pub use status::Status;
 pub use top::rewire;
 
+#[cfg(test)]
+mod check_tests;
 #[cfg(test)]
 mod sim_tests;
 #[cfg(test)]

@@ -1,13 +1,16 @@
 // The one call of the program.
 ghost use Rattle.std.specs.Prelude.{◌≡◌, ◌≢◌, ◌⊎◌, ◌++◌, ◌↔◌, ℕ, List, map, string_bytes, None, Some, Err};
+ghost use Rattle.rw_base.specs.declared.rule.Rule.{Rule};
+ghost use Rattle.rw_base.specs.declared.place.Place.{Place};
 ghost use Rattle.rw_base.specs.Outside.{Files, Told, IfTold, Rose, Appended, AppendedPrefix};
-ghost use Rattle.rewire_top.specs.Commands.{command_of, files_of, HoldsAll, HasTarget, PutsText, WriteFailed, KeepsOthers};
-ghost use Rattle.rewire_top.specs.Answers.{Compiles, CompilesInPart, IsNotOfTheForm, Simulates, Prints, status_of, not_built, IsRefusal, IsLater};
+ghost use Rattle.rewire_top.specs.Commands.{command_of, files_of, HoldsAll, ReadsSource, PutsText, WriteFailed, KeepsOthers};
+ghost use Rattle.rewire_top.specs.Answers.{Compiles, CompilesInPart, IsRefusedAs, Simulates, Prints, status_of, IsLater};
 ghost use Rattle.rewire_top.specs.Printed.{line_of};
 ghost use Rattle.vhdl_bench.specs.declared.fail.BenchFail.{BenchFail};
 ghost use Rattle.vhdl_bench.specs.declared.fail.BenchFail.TheVariants.{OutOfMemory as WantOfMemory};
 
 use crate::Status;
+use crate::check::check;
 use crate::compile::compile;
 use crate::line::make_line;
 use crate::simulated::sim;
@@ -59,8 +62,10 @@ fn answer<S: Store, O: Sink>(alloc: Global, words: &[String], store: &mut S, out
     ensures kept { result ≢ Status.Ok → result ≢ Status.WriteFault → S.held store.new ≡ S.held store.old }
     ensures ok { result ≡ Status.Ok → Told (Compiles (command_of (map string_bytes words.now))) (S.held store.old) (S.held store.new) }
     ensures part { result ≡ Status.WriteFault → Told (CompilesInPart (command_of (map string_bytes words.now))) (S.held store.old) (S.held store.new) }
-    ensures refused { IsRefusal result → HasTarget (command_of (map string_bytes words.now)) × (result ≡ not_built) × IfTold (IsNotOfTheForm (command_of (map string_bytes words.now))) (S.held store.old) }
-    ensures refused_where { (files : Files) → S.held store.old ≡ Some files → IsNotOfTheForm (command_of (map string_bytes words.now)) files → (result ≡ not_built) ⊎ (result ≡ Status.ReadFault) ⊎ (result ≡ Status.OutOfMemory) }
+    ensures refused { (rule : Rule) (place : Place) → result ≡ Status.Refused rule place →
+        ReadsSource (command_of (map string_bytes words.now)) × IfTold (λ files. IsRefusedAs (command_of (map string_bytes words.now)) files rule place) (S.held store.old) }
+    ensures refused_where { (files : Files) (rule : Rule) (place : Place) → S.held store.old ≡ Some files → IsRefusedAs (command_of (map string_bytes words.now)) files rule place →
+        (result ≡ Status.Refused rule place) ⊎ (result ≡ Status.ReadFault) ⊎ (result ≡ Status.OutOfMemory) }
     ensures no_other { IsLater result → PutsText (command_of (map string_bytes words.now)) }
     ensures later { (fail : BenchFail) → fail ≢ WantOfMemory → result ≡ status_of fail → IfTold (λ files. Simulates (command_of (map string_bytes words.now)) files (Err fail)) (S.held store.old) }
     ensures later_where { (files : Files) → S.held store.old ≡ Some files → (fail : BenchFail) → Simulates (command_of (map string_bytes words.now)) files (Err fail) → (result ≡ status_of fail) ⊎ (result ≡ Status.ReadFault) ⊎ (result ≡ Status.OutOfMemory) }
@@ -70,6 +75,7 @@ fn answer<S: Store, O: Sink>(alloc: Global, words: &[String], store: &mut S, out
 {
     match read_words(words) {
         Asked::Nothing => Status::Usage,
+        Asked::Check(file) => check(alloc, file, store),
         Asked::Compile(file, target) => compile(alloc, file, target, store),
         Asked::Sim(vhdl, trace) => sim(alloc, vhdl, trace, store, out),
     }
@@ -78,13 +84,14 @@ fn answer<S: Store, O: Sink>(alloc: Global, words: &[String], store: &mut S, out
 /// Does all that the program does: reads the words, loads, compiles and saves or simulates and prints, and puts one
 /// line to `err` for each status but `Ok`.
 ///
-/// `words` are the program's words without its name. `compile FILE OUT` loads FILE, and saves the VHDL text of its
-/// device under OUT; nothing is put to `out`. `sim VHDL TRACE` loads both, and puts to `out` a line for each reading of
+/// `words` are the program's words without its name. `check FILE` loads FILE and judges the source by the rules E01 to
+/// E16 of the language; nothing is saved and nothing is put to `out`. `compile FILE OUT` loads FILE, and saves the VHDL text
+/// of its device under OUT; nothing is put to `out`. `sim VHDL TRACE` loads both, and puts to `out` a line for each reading of
 /// `outp`: after the edge of reset, and after that of each line of the trace, which gives the values of `inp` (the subset
 /// of IEEE Std 1076-1993 that is read is profiled in `vh_tree`). Other words are `Usage`.
 ///
-/// The answers come in this order: `Usage` by the words; `ReadFault` where a load failed; `Refused` where the source
-/// isn't of the explicit form; `VhdlRefused` where the text breaks one of V1 to V8, a text of more than 67,108,864 bytes
+/// The answers come in this order: `Usage` by the words; `ReadFault` where a load failed; `Refused` by the first rule that
+/// the source breaks, first at this place, in `check`, and by E00 where the source isn't of the explicit form in `compile`; `VhdlRefused` where the text breaks one of V1 to V8, a text of more than 67,108,864 bytes
 /// V1; `TraceRefused` at the first line of the trace that is refused; `NotSettled` at the first change that isn't quiet
 /// after 64 delta cycles; `WriteFault` where the save or the put failed; `Ok`. Want of memory may come in place of each,
 /// as `OutOfMemory`.
@@ -105,10 +112,13 @@ pub fn rewire<S: Store, O: Sink, E: Sink>(
     ensures read_fault_sound { S.sound store.old → IfTold (HoldsAll (files_of (command_of (map string_bytes words.now)))) (S.held store.old) → result ≢ Status.ReadFault }
     ensures write_fault { result ≡ Status.WriteFault → WriteFailed (command_of (map string_bytes words.now)) (Rose (S.save_faults store.old) (S.save_faults store.new)) (Rose (O.faults out.old) (O.faults out.new)) }
 
-    // The refusals: exactly where the source isn't of the explicit form; and in `sim`, the first of the text, the trace
+    // The refusals: in `check`, exactly by the first broken rule of E01 to E16; in `compile`, exactly where the source isn't
+    // of the explicit form; and in `sim`, the first of the text, the trace
     // and the changes that isn't as it is to be.
-    ensures refused { IsRefusal result → HasTarget (command_of (map string_bytes words.now)) × (result ≡ not_built) × IfTold (IsNotOfTheForm (command_of (map string_bytes words.now))) (S.held store.old) }
-    ensures refused_where { (files : Files) → S.held store.old ≡ Some files → IsNotOfTheForm (command_of (map string_bytes words.now)) files → (result ≡ not_built) ⊎ (result ≡ Status.ReadFault) ⊎ (result ≡ Status.OutOfMemory) }
+    ensures refused { (rule : Rule) (place : Place) → result ≡ Status.Refused rule place →
+        ReadsSource (command_of (map string_bytes words.now)) × IfTold (λ files. IsRefusedAs (command_of (map string_bytes words.now)) files rule place) (S.held store.old) }
+    ensures refused_where { (files : Files) (rule : Rule) (place : Place) → S.held store.old ≡ Some files → IsRefusedAs (command_of (map string_bytes words.now)) files rule place →
+        (result ≡ Status.Refused rule place) ⊎ (result ≡ Status.ReadFault) ⊎ (result ≡ Status.OutOfMemory) }
     ensures no_other { IsLater result → PutsText (command_of (map string_bytes words.now)) }
     ensures later { (fail : BenchFail) → fail ≢ WantOfMemory → result ≡ status_of fail → IfTold (λ files. Simulates (command_of (map string_bytes words.now)) files (Err fail)) (S.held store.old) }
     ensures later_where { (files : Files) → S.held store.old ≡ Some files → (fail : BenchFail) → Simulates (command_of (map string_bytes words.now)) files (Err fail) → (result ≡ status_of fail) ⊎ (result ≡ Status.ReadFault) ⊎ (result ≡ Status.OutOfMemory) }

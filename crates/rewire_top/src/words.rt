@@ -5,6 +5,8 @@ ghost use Rattle.rewire_top.specs.Commands.{command_of};
 
 // What the words ask for.
 pub enum Asked<'a> {
+    // `check FILE`
+    Check(&'a str),
     // `compile FILE OUT`
     Compile(&'a str, &'a str),
     // `sim VHDL TRACE`
@@ -18,6 +20,7 @@ pub fn read_words<'a>(words: &'a [String]) -> Asked<'a>
     ensures { asked_of result ≡ command_of (map string_bytes words.now) }
 {
     match words {
+        [word, file] if word.as_str() == "check" => Asked::Check(file.as_str()),
         [word, file, target] if word.as_str() == "compile" => {
             Asked::Compile(file.as_str(), target.as_str())
         }

@@ -1,12 +1,16 @@
 use Rattle.std.proofs.Common.{Option, Err, subst, sym}
 use Rattle.rewire_top.specs.Commands.{Command}
-use Rattle.rewire_top.specs.Answers.{IsNotOfTheForm, Simulates, Prints}
+use Rattle.rewire_top.specs.Answers.{IsRefusedAs, Simulates, Prints}
 use Rattle.rw_base.specs.Outside.{IfTold}
 use Rattle.rewire_top.proofs.top.answer.Goals as goal
 
+pub returns-in-Check-clause-refused_where : goal.returns-in-Check-clause-refused_where
+returns-in-Check-clause-refused_where g c files rule place held refused =
+    c.check.ensures.refused_where files rule place held (subst (λ (o : Option Command). IsRefusedAs o files rule place) (sym c.in-Check.ensures) refused)
+
 pub returns-in-Compile-clause-refused_where : goal.returns-in-Compile-clause-refused_where
-returns-in-Compile-clause-refused_where g c files held not_form =
-    c.compile.ensures.refused_where files held (subst (λ (o : Option Command). IsNotOfTheForm o files) (sym c.in-Compile.ensures) not_form)
+returns-in-Compile-clause-refused_where g c files rule place held refused =
+    c.compile.ensures.refused_where files rule place held (subst (λ (o : Option Command). IsRefusedAs o files rule place) (sym c.in-Compile.ensures) refused)
 
 pub returns-in-Sim-clause-later_where : goal.returns-in-Sim-clause-later_where
 returns-in-Sim-clause-later_where g c files held fail s =

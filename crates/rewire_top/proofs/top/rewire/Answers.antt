@@ -14,3 +14,7 @@ told given result expected (inl same) (inr (inr memory)) = inr (inr (same ∙ me
 
 pub returns-clause-later_where : goal.returns-clause-later_where
 returns-clause-later_where g c files held fail s = told c.answer-status.result c.tell.result (status_of fail) c.tell.ensures.same (c.answer-status.ensures.later_where files held fail s)
+
+pub returns-clause-refused_where : goal.returns-clause-refused_where
+returns-clause-refused_where g c files rule place held refused =
+    told c.answer-status.result c.tell.result (status.Refused rule place) c.tell.ensures.same (c.answer-status.ensures.refused_where files rule place held refused)

@@ -1,0 +1,2 @@
+start :: ReT Bool Bool I ()
+start = signal True) >>= \x -> start

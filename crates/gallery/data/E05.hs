@@ -1,0 +1,6 @@
+start :: ReT Bool Bool I ()
+start = do
+  signal lit
+  start
+  where
+    lit = True

@@ -1,0 +1,3 @@
+data Way = Left | Right
+start :: ReT Bool Way I ()
+start = signal Left >>= \x -> start

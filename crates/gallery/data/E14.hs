@@ -1,0 +1,3 @@
+start :: ReT Bool Bool I ()
+start = signal True >>= \x -> case x of
+  True -> start

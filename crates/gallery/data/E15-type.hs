@@ -1,0 +1,2 @@
+start :: ReT Bool Bool I Bool
+start = signal True

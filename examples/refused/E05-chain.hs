@@ -1,0 +1,2 @@
+start :: ReT Bool Bool I ()
+start = signal (not . not `id` True) >>= \x -> start

@@ -1,0 +1,3 @@
+import ReWire
+start :: ReT Bool Bool I ()
+start = signal True >>= \x -> start

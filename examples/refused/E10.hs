@@ -1,0 +1,2 @@
+start :: ReT Bool Bool ()
+start = signal True >>= \x -> start

@@ -1,0 +1,5 @@
+start :: ReT Bool Bool I ()
+start = signal a >>= \x -> start
+  where
+    a = not b
+    b = True

@@ -1,0 +1,2 @@
+main :: ReT Bool Bool I ()
+main = signal True >>= \x -> main

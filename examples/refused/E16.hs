@@ -1,0 +1,2 @@
+start :: ReT Bool Bool I ()
+start = signal True >>= \x -> refold id const start
