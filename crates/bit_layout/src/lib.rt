@@ -17,6 +17,3 @@ pub use encoding::encode;
 pub use laws::{encoding_has_width, encoding_tells_value, width_is_of_fields};
 pub use table::is_table;
 pub use widths::{tag_bits, width};
-
-#[cfg(test)]
-mod tests;

@@ -14,6 +14,3 @@ mod sort;
 
 pub use decide::covers;
 pub use pattern::Pattern;
-
-#[cfg(test)]
-mod tests;

@@ -19,6 +19,3 @@ mod processes;
 pub use emit::design;
 pub use laws::{code_law, machine_law, register_law, spellable_law, static_law};
 pub use machine::{Machine, State};
-
-#[cfg(test)]
-mod tests;

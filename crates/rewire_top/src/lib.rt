@@ -16,10 +16,3 @@ mod words;
 
 pub use status::Status;
 pub use top::rewire;
-
-#[cfg(test)]
-mod check_tests;
-#[cfg(test)]
-mod sim_tests;
-#[cfg(test)]
-mod tests;

@@ -21,6 +21,3 @@ mod tops;
 
 pub use laws::annotation_law;
 pub use program::bind;
-
-#[cfg(test)]
-mod tests;

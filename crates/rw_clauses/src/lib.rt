@@ -20,6 +20,3 @@ mod side;
 mod statement;
 
 pub use read::{read_clause, read_expression, read_locals};
-
-#[cfg(test)]
-mod tests;

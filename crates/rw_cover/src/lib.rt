@@ -15,6 +15,3 @@ mod program;
 pub use known::known_of;
 pub use laws::{left_over_law, places_law};
 pub use program::cover;
-
-#[cfg(test)]
-mod tests;

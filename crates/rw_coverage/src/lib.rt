@@ -12,6 +12,3 @@ mod pattern;
 
 pub use clause::{clauses_cover, patterns_cover};
 pub use known::{Known, constructor_counts};
-
-#[cfg(test)]
-mod tests;

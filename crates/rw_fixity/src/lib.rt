@@ -13,6 +13,3 @@ mod nodes;
 mod program;
 
 pub use program::resolve_fixity;
-
-#[cfg(test)]
-mod tests;

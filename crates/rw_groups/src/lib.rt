@@ -10,6 +10,3 @@ mod numbers;
 mod owners;
 
 pub use cycles::cyclic;
-
-#[cfg(test)]
-mod tests;

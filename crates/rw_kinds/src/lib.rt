@@ -20,6 +20,3 @@ mod wrong;
 pub use laws::recursion_law;
 pub use recursive::recursive_or_empty;
 pub use wrong::misused;
-
-#[cfg(test)]
-mod tests;

@@ -17,6 +17,3 @@ pub use entry::{Entry, Opener};
 pub use laws::{explicit_stays, layout_is_balanced, layout_keeps_tokens, refused_by_e04};
 pub use layout::lay_out;
 pub use role::{Before, Role};
-
-#[cfg(test)]
-mod tests;

@@ -14,6 +14,3 @@ mod token;
 pub use bytes::{Class, Run};
 pub use scan::{lex, never_both, one_refusal, one_token_list, tokens_or_refusal};
 pub use token::{Token, TokenKind};
-
-#[cfg(test)]
-mod tests;

@@ -27,6 +27,3 @@ pub use inside::{declared_twice, repeated_in_functions};
 pub use pairs::unpaired;
 pub use places::earliest;
 pub use top::repeated_at_top;
-
-#[cfg(test)]
-mod tests;

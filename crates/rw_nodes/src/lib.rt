@@ -14,6 +14,3 @@ mod walk;
 
 pub use node::Node;
 pub use walk::{nodes, nodes_of_binding, nodes_of_pattern, nodes_of_patterns};
-
-#[cfg(test)]
-mod tests;

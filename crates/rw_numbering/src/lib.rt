@@ -17,6 +17,3 @@ mod statement;
 
 pub use declaration::number_declaration;
 pub use laws::{assignment_law, erased_law, instance_law, seen_law, typing_law};
-
-#[cfg(test)]
-mod tests;

@@ -20,6 +20,3 @@ pub use pattern::{apat, apats, begins_apat, patterns, read_pattern};
 pub use token::{after, few, next_spot, rest_of, same_mark, sees, span_at};
 pub use types::{atype, atypes, begins_atype, written_type};
 pub use unread::Unread;
-
-#[cfg(test)]
-mod tests;

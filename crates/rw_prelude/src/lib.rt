@@ -19,8 +19,6 @@ mod builder;
 mod data;
 mod functions;
 mod parts;
-#[cfg(test)]
-mod tests;
 
 /// The declarations of the prelude, in the order of its text (Haskell 2010 Report, chapter 9, in this project's
 /// profile). No source declares them: their place is 0:0 and their token numbers are 0 throughout.

@@ -9,6 +9,3 @@ mod program;
 mod refuse;
 
 pub use program::scope;
-
-#[cfg(test)]
-mod tests;

@@ -10,6 +10,3 @@ mod sorted;
 
 pub use laws::{general_sort, general_state_monad, one_sort};
 pub use sorted::{all_sorted, is_of_sort};
-
-#[cfg(test)]
-mod tests;

@@ -11,6 +11,3 @@ mod parts;
 
 pub use apart::split;
 pub use parts::Parts;
-
-#[cfg(test)]
-mod tests;

@@ -14,6 +14,3 @@ pub use fail::TraceFail;
 pub use lines::to_bits;
 pub use printed::{line, push_line};
 pub use values::to_values;
-
-#[cfg(test)]
-mod tests;

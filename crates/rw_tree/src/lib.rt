@@ -23,6 +23,3 @@ pub use expr::Expr;
 pub use pattern::Pat;
 pub use program::{Program, Typed};
 pub use types::{Kind, TyNode, Written};
-
-#[cfg(test)]
-mod tests;

@@ -35,6 +35,3 @@ pub use pattern::{add_pattern, add_row, enter_pattern, enter_row};
 pub use scheme::{DataName, Scheme, World};
 pub use solve::solve_equations;
 pub use written::written_type;
-
-#[cfg(test)]
-mod tests;

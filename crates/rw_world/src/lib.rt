@@ -13,6 +13,3 @@ mod variables;
 mod whole;
 
 pub use whole::world;
-
-#[cfg(test)]
-mod tests;

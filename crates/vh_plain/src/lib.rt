@@ -17,6 +17,3 @@ pub use changes::{bench, reading, risen, start, with_input};
 pub use delta::{next_state, quiet, settle};
 pub use expr::{append_call, append_function, append_value};
 pub use fail::PlainFail;
-
-#[cfg(test)]
-mod tests;

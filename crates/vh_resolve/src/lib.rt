@@ -51,6 +51,3 @@ pub fn resolve(alloc: Global, design: &Design) -> Result<Resolved, OutOfMemory>
         room,
     })
 }
-
-#[cfg(test)]
-mod tests;

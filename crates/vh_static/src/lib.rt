@@ -50,6 +50,3 @@ pub fn check_static(alloc: Global, design: &Design) -> Result<(), VFail>
     }
     Ok(())
 }
-
-#[cfg(test)]
-mod tests;

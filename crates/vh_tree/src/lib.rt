@@ -34,6 +34,3 @@ pub use spelling_laws::{
 pub use stmt::{Branch, Test, VStmt};
 pub use token::{Mark, Side, Token};
 pub use wire::{Held, Moment, Settled, State, Wire};
-
-#[cfg(test)]
-mod tests;

@@ -11,6 +11,3 @@ mod unsettled;
 
 pub use sim::Sim;
 pub use unsettled::NotSettled;
-
-#[cfg(test)]
-mod tests;

@@ -39,6 +39,3 @@ pub fn print(alloc: Global, design: &Design) -> Result<Vec<u8>, OutOfMemory>
     spellable_designs_are_spelled();
     Ok(text)
 }
-
-#[cfg(test)]
-mod tests;

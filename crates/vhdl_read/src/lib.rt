@@ -25,6 +25,3 @@ pub use scan::tokens_of;
 pub use spelled::read_spelled;
 pub use unread::Unread;
 pub use vh_static::VFail;
-
-#[cfg(test)]
-mod tests;

@@ -12,6 +12,3 @@ mod stack;
 
 pub use circle::circular;
 pub use search::stuck;
-
-#[cfg(test)]
-mod tests;

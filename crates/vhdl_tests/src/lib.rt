@@ -1,0 +1,21 @@
+//! The tests of VHDL: designs as texts and texts as designs, the static rules, names resolved to places, delta cycles, and the plain
+//! simulator that the definitions are computed by.
+//!
+//! It leaves the definitions computed by proof to `vh_examples`, and traces to `machine_tests`. Nothing uses it: it stands apart so
+//! that a stage is proved once, and not once more beside its tests. Begin with `print.rt` and `read.rt`, then `cycle.rt`.
+#![tactic(auto)]
+
+#[cfg(test)]
+mod cycle;
+#[cfg(test)]
+mod names;
+#[cfg(test)]
+mod plain;
+#[cfg(test)]
+mod print;
+#[cfg(test)]
+mod read;
+#[cfg(test)]
+mod resolve;
+#[cfg(test)]
+mod static_rules;
