@@ -8,6 +8,8 @@
 #[cfg(test)]
 mod cycle;
 #[cfg(test)]
+mod designs;
+#[cfg(test)]
 mod names;
 #[cfg(test)]
 mod plain;
@@ -19,3 +21,5 @@ mod read;
 mod resolve;
 #[cfg(test)]
 mod static_rules;
+#[cfg(test)]
+mod texts;

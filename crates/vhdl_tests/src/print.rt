@@ -1,19 +1,16 @@
 // Designs made by hand, and the texts that they must give.
 
-mod designs;
-mod texts;
-
+use crate::designs::{self, oscillating, switch};
+use crate::texts::{OSCILLATING, SWITCH};
 use std::test::Fail;
 use vhdl_print::print;
 
 #[test]
 fn designs_made_by_hand(rt: HostRuntime) -> Result<(), Fail> {
     let alloc = rt.alloc();
-    let switch = designs::switch(alloc)?;
-    let text = print(alloc, &switch)?;
-    assert_eq!(rt; text.as_slice(), texts::SWITCH);
-    let oscillating = designs::oscillating(alloc)?;
-    let text = print(alloc, &oscillating)?;
-    assert_eq!(rt; text.as_slice(), texts::OSCILLATING);
+    let text = print(alloc, &switch(alloc, designs::SWITCH)?)?;
+    assert_eq!(rt; text.as_slice(), SWITCH);
+    let text = print(alloc, &oscillating(alloc)?)?;
+    assert_eq!(rt; text.as_slice(), OSCILLATING);
     Ok(())
 }

@@ -1,8 +1,6 @@
 // Which rule is the first that a design breaks, where it breaks one.
 
-mod designs;
-
-use designs::{Plan, SWITCH, oscillating, pass, switch};
+use crate::designs::{Plan, SWITCH, oscillating, pass, switch, switch_with_low};
 use rw_base::{OutOfMemory, VRule};
 use std::alloc::Global;
 use vh_static::{VFail, check_static};
@@ -61,7 +59,7 @@ fn refuses_by_the_first_broken_rule(rt: HostRuntime) -> Made<()> {
         (Plan { width: 2, ..early }, VRule::V5),
     ];
     for (plan, rule) in broken {
-        assert!(rt; refuses(alloc, rule, &switch(alloc, plan)?));
+        assert!(rt; refuses(alloc, rule, &switch_with_low(alloc, plan)?));
     }
     assert!(rt; refuses(alloc, VRule::V8, &pass(alloc, 1025)?));
     Ok(())

@@ -1,10 +1,11 @@
 // Designs made by hand: the two-state switch, and that design with something changed; one that never comes to rest; a wire.
 
-use crate::static_rules::Made;
-use rw_base::Bit9;
+use rw_base::{Bit9, OutOfMemory};
 use sqlite_items::Items;
 use std::alloc::Global;
 use vh_tree::{Branch, Design, Function, Ident, Item, Process, Test, VExpr, VStmt, Var};
+
+type Made<T> = Result<T, OutOfMemory>;
 
 // What differs between the designs that are made of the switch: the width of `v2`, what the function gives back, what
 // the register assigns to, and what is shown.
@@ -60,15 +61,21 @@ fn assign(alloc: Global, target: &[u8], value: VExpr) -> Made<VStmt> {
     Ok(VStmt::Assign(id(alloc, target)?, value))
 }
 
-fn is_one(alloc: Global, bytes: &[u8]) -> Made<Test> {
-    Ok(Test::Equal(name(alloc, bytes)?, one(alloc, Bit9::One)?))
+fn is(alloc: Global, bytes: &[u8], bit: Bit9) -> Made<Test> {
+    Ok(Test::Equal(name(alloc, bytes)?, one(alloc, bit)?))
+}
+
+// A branch of one test and one statement.
+fn branch(alloc: Global, test: Test, stmt: VStmt) -> Made<Branch> {
+    Ok(Branch {
+        tests: one(alloc, test)?,
+        body: one(alloc, stmt)?,
+    })
 }
 
 // `if test then stmt end if ;`, with what stands behind `else`.
 fn choose(alloc: Global, test: Test, stmt: VStmt, other: Items<VStmt>) -> Made<VStmt> {
-    let tests = one(alloc, test)?;
-    let body = one(alloc, stmt)?;
-    Ok(VStmt::If(one(alloc, Branch { tests, body })?, other))
+    Ok(VStmt::If(one(alloc, branch(alloc, test, stmt)?)?, other))
 }
 
 // A process that waits for one name and has one statement.
@@ -84,7 +91,16 @@ fn wire(alloc: Global, from: &[u8], to: &[u8]) -> Made<Process> {
     process(alloc, from, assign(alloc, to, name(alloc, from)?)?)
 }
 
-// `v0 := p0 ; v1 := p1 ; v2 := v1 ; if v0 = "1" then if v1 = "1" then v2 := "0" ; else v2 := "1" ; end if ; end if ;`
+// `if v0 = "1" and v1 = "0" then v2 := "1" ; elsif v0 = "1" then v2 := "0" ; end if ;`
+fn next_bit(alloc: Global) -> Made<VStmt> {
+    let up = assign(alloc, b"v2", literal(alloc, Bit9::One)?)?;
+    let down = assign(alloc, b"v2", literal(alloc, Bit9::Zero)?)?;
+    let mut first = branch(alloc, is(alloc, b"v0", Bit9::One)?, up)?;
+    first.tests.push(is(alloc, b"v1", Bit9::Zero)?)?;
+    let second = branch(alloc, is(alloc, b"v0", Bit9::One)?, down)?;
+    Ok(VStmt::If(two(alloc, first, second)?, Items::new(alloc)))
+}
+
 fn next_body(alloc: Global) -> Made<Items<VStmt>> {
     let mut body = two(
         alloc,
@@ -92,11 +108,7 @@ fn next_body(alloc: Global) -> Made<Items<VStmt>> {
         assign(alloc, b"v1", name(alloc, b"p1")?)?,
     )?;
     body.push(assign(alloc, b"v2", name(alloc, b"v1")?)?)?;
-    let down = assign(alloc, b"v2", literal(alloc, Bit9::Zero)?)?;
-    let up = assign(alloc, b"v2", literal(alloc, Bit9::One)?)?;
-    let turned = choose(alloc, is_one(alloc, b"v1")?, down, one(alloc, up)?)?;
-    let none = Items::new(alloc);
-    body.push(choose(alloc, is_one(alloc, b"v0")?, turned, none)?)?;
+    body.push(next_bit(alloc)?)?;
     Ok(body)
 }
 
@@ -113,7 +125,7 @@ fn next(alloc: Global, plan: Plan) -> Made<Item> {
     }))
 }
 
-// A function that is declared behind the other, and that nothing uses in the switch.
+// A function without parameters, which returns '0'.
 fn low(alloc: Global) -> Made<Item> {
     Ok(Item::Function(Function {
         name: id(alloc, b"f1")?,
@@ -137,12 +149,10 @@ fn register(alloc: Global, driven: &[u8]) -> Made<Process> {
 
 // A register of one bit that each 1 of the input turns over, but for what the plan changes.
 pub fn switch(alloc: Global, plan: Plan) -> Made<Design> {
-    let mut items = two(alloc, signal(alloc, b"s0")?, next(alloc, plan)?)?;
-    items.push(low(alloc)?)?;
     Ok(Design {
         inp: 1,
         outp: 1,
-        items,
+        items: two(alloc, signal(alloc, b"s0")?, next(alloc, plan)?)?,
         processes: two(
             alloc,
             register(alloc, plan.driven)?,
@@ -151,11 +161,18 @@ pub fn switch(alloc: Global, plan: Plan) -> Made<Design> {
     })
 }
 
+// The same, with a function `f1` behind the other.
+pub fn switch_with_low(alloc: Global, plan: Plan) -> Made<Design> {
+    let mut design = switch(alloc, plan)?;
+    design.items.push(low(alloc)?)?;
+    Ok(design)
+}
+
 // Two processes that feed each other, and so never come to rest.
 pub fn oscillating(alloc: Global) -> Made<Design> {
     let low = assign(alloc, b"s1", literal(alloc, Bit9::Zero)?)?;
     let high = assign(alloc, b"s1", literal(alloc, Bit9::One)?)?;
-    let turned = choose(alloc, is_one(alloc, b"s0")?, low, one(alloc, high)?)?;
+    let turned = choose(alloc, is(alloc, b"s0", Bit9::One)?, low, one(alloc, high)?)?;
     let inverter = process(alloc, b"s0", turned)?;
     let mut processes = two(alloc, inverter, wire(alloc, b"s1", b"s0")?)?;
     processes.push(wire(alloc, b"s0", b"outp")?)?;

@@ -1,4 +1,4 @@
-// Canonical texts, as the printer is to write them.
+// Worked designs as texts: canonical ones, as the printer is to write them, and then two more.
 
 /// A register of one bit that each 1 of the input turns over.
 pub const SWITCH: &[u8] = b"\
@@ -70,6 +70,63 @@ pub const OSCILLATING: &[u8] = b"\
     end process ;\n\
     process ( s0 ) begin\n\
     outp <= s0 ;\n\
+    end process ;\n\
+    end behaviour ;\n\
+";
+
+/// `s0` takes '1' from the input, and else keeps what `s1` has; `s1` takes `s0`.
+pub const LATCH: &[u8] = b"\
+    library ieee ;\n\
+    use ieee . std_logic_1164 . all ;\n\
+    entity rewire is\n\
+    port ( clk : in std_logic ;\n\
+    rst : in std_logic ;\n\
+    inp : in std_logic_vector ( 0 downto 0 ) ;\n\
+    outp : out std_logic_vector ( 0 downto 0 ) ) ;\n\
+    end rewire ;\n\
+    architecture behaviour of rewire is\n\
+    signal s0 : std_logic_vector ( 0 downto 0 ) ;\n\
+    signal s1 : std_logic_vector ( 0 downto 0 ) ;\n\
+    begin\n\
+    process ( inp , s1 ) begin\n\
+    if inp = \"1\" then\n\
+    s0 <= \"1\" ;\n\
+    else\n\
+    s0 <= s1 ;\n\
+    end if ;\n\
+    end process ;\n\
+    process ( s0 ) begin\n\
+    s1 <= s0 ;\n\
+    end process ;\n\
+    process ( s1 ) begin\n\
+    outp <= s1 ;\n\
+    end process ;\n\
+    end behaviour ;\n\
+";
+
+/// `f0` returns a variable that is never written, `f1` joins it with two more bits.
+pub const UNWRITTEN: &[u8] = b"\
+    library ieee ;\n\
+    use ieee . std_logic_1164 . all ;\n\
+    entity rewire is\n\
+    port ( clk : in std_logic ;\n\
+    rst : in std_logic ;\n\
+    inp : in std_logic_vector ( 0 downto 0 ) ;\n\
+    outp : out std_logic_vector ( 3 downto 0 ) ) ;\n\
+    end rewire ;\n\
+    architecture behaviour of rewire is\n\
+    function f0 return std_logic_vector is\n\
+    variable v0 : std_logic_vector ( 1 downto 0 ) ;\n\
+    begin\n\
+    return v0 ;\n\
+    end f0 ;\n\
+    function f1 return std_logic_vector is\n\
+    begin\n\
+    return f0 & \"1-\" ;\n\
+    end f1 ;\n\
+    begin\n\
+    process ( inp ) begin\n\
+    outp <= f1 ;\n\
     end process ;\n\
     end behaviour ;\n\
 ";
