@@ -1,54 +1,10 @@
 // What the names of a small function are bound to, found with ample memory.
 
-use rw_base::{Name, OutOfMemory, Place, Span};
+use crate::source::program_of;
 use rw_binding::bind;
 use rw_scoping::{Binding, Bound};
-use rw_tree::{Alt, Decl, Expr, Pat, Program, Rhs};
-use sqlite_items::{Boxed, Items};
-use std::alloc::Global;
+use rw_tree::{Alt, Decl, Expr, Rhs};
 use std::test::Fail;
-
-const AT: Span = Span {
-    first: Place { line: 1, column: 1 },
-    from: 0,
-    to: 1,
-};
-
-fn one<T: Drop>(alloc: Global, item: T) -> Result<Items<T>, OutOfMemory> {
-    let mut items = Items::new(alloc);
-    items.push(item)?;
-    Ok(items)
-}
-
-fn binders(alloc: Global) -> Result<Items<Pat<Span>>, OutOfMemory> {
-    one(alloc, Pat::Var(AT, Name::from_slice(alloc, b"x")?))
-}
-
-/// `\x -> x`
-fn identity(alloc: Global) -> Result<Expr<Span>, OutOfMemory> {
-    let body = Boxed::new(alloc, Expr::Var(AT, Name::from_slice(alloc, b"x")?))?;
-    Ok(Expr::Lambda(AT, binders(alloc)?, body))
-}
-
-/// Its clause: `x = \x -> x`
-fn row(alloc: Global) -> Result<Alt<Span>, OutOfMemory> {
-    Ok(Alt {
-        at: AT,
-        pats: binders(alloc)?,
-        rhs: Rhs::Plain(identity(alloc)?),
-        wheres: Items::new(alloc),
-    })
-}
-
-/// `f x = \x -> x`
-fn program(alloc: Global) -> Result<Program<Span>, OutOfMemory> {
-    let rows = one(alloc, row(alloc)?)?;
-    let decls = one(alloc, Decl::Fun(AT, Name::from_slice(alloc, b"f")?, rows))?;
-    Ok(Program {
-        decls,
-        types: Items::new(alloc),
-    })
-}
 
 /// What the body of a lambda is bound to.
 fn innermost(expr: &Expr<Bound>) -> Option<Binding> {
@@ -75,8 +31,8 @@ fn in_row(rows: &[Alt<Bound>]) -> Option<Binding> {
 #[test]
 fn the_innermost_binder_counts(rt: HostRuntime) -> Result<(), Fail> {
     let alloc = rt.alloc();
-    let source = program(alloc).map_err(|_| "memory")?;
-    let bound = bind(alloc, &source).map_err(|_| "memory")?;
+    let source = program_of(alloc, b"f x = \\x -> x".as_slice())?;
+    let bound = bind(alloc, &source)?;
     match bound.decls.as_slice() {
         [Decl::Fun(at, _, rows)] => {
             assert!(rt; at.bound == Some(Binding::Declared(0)));

@@ -1,7 +1,7 @@
 //! The tests of scoping: nodes, bound names, the rule on each kind of name, circles of types and of functions, and the one call.
 //!
-//! It leaves the definitions to `rw_scoping` and computed programs to `scope_examples`. Nothing uses it: it stands apart so that a
-//! rule is proved once, and not once more beside its tests. Begin with `names.rt`, then `scope.rt`.
+//! It leaves the definitions to `rw_scoping` and computed programs to `scope_examples`. It stands apart so that a rule is proved once,
+//! and not once more beside its tests; `typing_tests` reads its sources by it too. Begin with `source.rt` and `names.rt`.
 #![tactic(auto)]
 
 #[cfg(test)]
@@ -18,3 +18,6 @@ mod names;
 mod nodes;
 #[cfg(test)]
 mod scope;
+mod source;
+
+pub use source::program_of;
