@@ -16,6 +16,8 @@ mod numbering;
 #[cfg(test)]
 mod sorts;
 #[cfg(test)]
+mod source;
+#[cfg(test)]
 mod systems;
 #[cfg(test)]
 mod types;
