@@ -5,11 +5,11 @@ use Rattle.rw_base.specs.declared.place.Place.{Place}
 use Rattle.rw_base.specs.declared.fail.Refusal.{Refusal}
 use Rattle.rw_base.specs.declared.fail.Fail.{Fail}
 use Rattle.rw_base.specs.declared.fail.Fail.TheVariants.{Refused}
-use Rattle.rw_scoping.specs.Names.{is_before, earlier, earliest}
-use Rattle.pattern_matrix.specs.Values.{Shapes, no_shapes, more_shapes, opaque, data_of, one_choice, more_choices}
-use Rattle.pattern_matrix.specs.Matching.{PlainPattern, constructed, no_patterns, AreRowsOf}
-use Rattle.pattern_matrix.specs.Coverage.{Decides}
-use Rattle.rw_coverage.specs.Coverage.{Group, AreUncovered}
+use Rattle.rw_scope_rules.specs.Names.{is_before, earlier, earliest}
+use Rattle.rw_cover_matrix.specs.Values.{Shapes, no_shapes, more_shapes, opaque, data_of, one_choice, more_choices}
+use Rattle.rw_cover_matrix.specs.Matching.{PlainPattern, constructed, no_patterns, AreRowsOf}
+use Rattle.rw_cover_matrix.specs.Coverage.{Decides}
+use Rattle.rw_cover.specs.Coverage.{Group, AreUncovered}
 use Rattle.rw_cover.specs.Correct.{IsFirst, HaveTypes, AllHaveTypes, IsCovered, LeavesOver, LeaveOverAt}
 use Rattle.rw_cover.proofs.LeftOver.{left_over}
 

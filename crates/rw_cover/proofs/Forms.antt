@@ -2,8 +2,8 @@
 use Rattle.std.proofs.Common.{◌≡◌, ◌∙◌, refl, sym, ap, subst, append-nil, ℕ, suc, List, [], ◌∷◌, map, length, Bool, Option, Some, None, if◌then◌else◌, Result, Ok, Err, IfOk, arith}
 use Rattle.rw_base.specs.declared.place.Place.{Place}
 use Rattle.rw_base.specs.declared.fail.OutOfMemory.{OutOfMemory}
-use Rattle.rw_scoping.specs.declared.binding.Bound.{Bound}
-use Rattle.rw_scoping.specs.Nodes.{expression_node, binding_node, statement_node, clauses_of}
+use Rattle.rw_scope_rules.specs.declared.binding.Bound.{Bound}
+use Rattle.rw_scope_rules.specs.Nodes.{expression_node, binding_node, statement_node, clauses_of}
 use Rattle.rw_tree.specs.declared.pattern.Pat.{Pat}
 use Rattle.rw_tree.specs.declared.types.Written.{Written}
 use Rattle.rw_tree.specs.declared.expr.Expr.{Expr}
@@ -16,11 +16,11 @@ use Rattle.rw_tree.specs.declared.clause.Stmt.TheVariants as stmt
 use Rattle.rw_tree.specs.Patterns.{patterns}
 use Rattle.rw_tree.specs.Trees.{Expression, Alternative, alternative_parts, alternative_of, expression, local_binding, statement}
 use Rattle.rw_tree.proofs.Plains.{expression-Case, expression-Lambda, local_binding-Sig, local_binding-Fun, local_binding-Pattern, statement-Bind, statement-Let, statement-Run, alternative-parts}
-use Rattle.pattern_matrix.specs.Matching.{PlainPattern}
-use Rattle.pattern_matrix.specs.Coverage.{Decides}
-use Rattle.rw_coverage.specs.declared.known.Known.{Known}
-use Rattle.rw_coverage.specs.Rows.{matrix_row, counted_row, counted_rows}
-use Rattle.rw_coverage.specs.Coverage.{Group, clauses_group, node_group}
+use Rattle.rw_cover_matrix.specs.Matching.{PlainPattern}
+use Rattle.rw_cover_matrix.specs.Coverage.{Decides}
+use Rattle.rw_cover.specs.declared.known.Known.{Known}
+use Rattle.rw_cover.specs.Rows.{matrix_row, counted_row, counted_rows}
+use Rattle.rw_cover.specs.Coverage.{Group, clauses_group, node_group}
 use Rattle.rw_cover.specs.Correct.{IsFirst}
 use Rattle.rw_cover.proofs.Groups.{no_groups, one_group}
 

@@ -1,10 +1,10 @@
 -- Looking for a name from the front of a list.
 use Rattle.std.proofs.Common.{◌≡◌, ◌∙◌, ◌↔◌, refl, sym, subst, ℕ, ◌+◌, ◌<◌, List, [], ◌∷◌, ◌++◌, map, drop, get_or, length, Bool, true, false, Option, Some, None, if◌then◌else◌, IsTrue, IsSome, is_some, add-one, drop-cons}
 use Rattle.std.proofs.lemmas.Slice.Eq.{bytes_eq-Decides}
-use Rattle.rw_scoping.specs.declared.binding.Binding.{Binding}
-use Rattle.rw_scoping.specs.declared.binding.Bound.{Bound}
-use Rattle.rw_scoping.specs.Names.{Bytes, same_name, first_named}
-use Rattle.rw_scoping.specs.Bindings.{declared_by, placed_constructors}
+use Rattle.rw_scope_rules.specs.declared.binding.Binding.{Binding}
+use Rattle.rw_scope_rules.specs.declared.binding.Bound.{Bound}
+use Rattle.rw_scope_rules.specs.Names.{Bytes, same_name, first_named}
+use Rattle.rw_scope_rules.specs.Bindings.{declared_by, placed_constructors}
 use Rattle.rw_tree.specs.declared.decl.Constructor.{Constructor}
 use Rattle.rw_tree.specs.declared.decl.Decl.{Decl}
 use Rattle.rw_tree.specs.Declarations.{Declaration, declaration, plain_constructor}

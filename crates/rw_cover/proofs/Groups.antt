@@ -4,9 +4,9 @@ use Rattle.std.proofs.Math.Seq.{take-suc}
 use Rattle.std.proofs.lemmas.List.{map-append}
 use Rattle.std.proofs.lemmas.Grind.{flat_map-append}
 use Rattle.rw_base.specs.declared.place.Place.{Place}
-use Rattle.rw_scoping.specs.Names.{earliest}
-use Rattle.pattern_matrix.specs.Coverage.{Decides}
-use Rattle.rw_coverage.specs.Coverage.{Group, AreUncovered}
+use Rattle.rw_scope_rules.specs.Names.{earliest}
+use Rattle.rw_cover_matrix.specs.Coverage.{Decides}
+use Rattle.rw_cover.specs.Coverage.{Group, AreUncovered}
 use Rattle.rw_cover.specs.Correct.{IsFirst}
 use Rattle.rw_cover.specs.Walk.{sooner}
 use Rattle.rw_cover.proofs.Places.{earliest-append}

@@ -1,8 +1,8 @@
 -- Where rows don't cover, some values match none of them: types are finite, so all their values can be tried.
 use Rattle.std.proofs.Common.{◌≡◌, refl, arith, ℕ, zero, suc, ◌<◌, List, Bool, true, false, ◌&&◌, ◌⊎◌, inl, inr}
-use Rattle.pattern_matrix.specs.Values.{Shape, opaque, data_of, Shapes, no_shapes, more_shapes, Choices, one_choice, more_choices, choices_count, fields_of, Value, opaque_value, built, Values, no_values, more_values, IsValue, AreValues}
-use Rattle.pattern_matrix.specs.Matching.{PlainPattern}
-use Rattle.pattern_matrix.specs.Coverage.{Covers, some_row_matches}
+use Rattle.rw_cover_matrix.specs.Values.{Shape, opaque, data_of, Shapes, no_shapes, more_shapes, Choices, one_choice, more_choices, choices_count, fields_of, Value, opaque_value, built, Values, no_values, more_values, IsValue, AreValues}
+use Rattle.rw_cover_matrix.specs.Matching.{PlainPattern}
+use Rattle.rw_cover_matrix.specs.Coverage.{Covers, some_row_matches}
 
 -- whether all values of a type, of columns, or of constructors from one on, pass a test
 abbrev mutual

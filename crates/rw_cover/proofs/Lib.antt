@@ -6,3 +6,5 @@ mod Whole
 mod Answer
 mod Found
 mod Forms
+-- Lemmas about the definitions.
+pub mod RowForms

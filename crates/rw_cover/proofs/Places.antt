@@ -2,7 +2,7 @@
 use Rattle.std.proofs.Common.{◌≡◌, ◌∙◌, refl, sym, ap, arith, ℕ, List, [], ◌∷◌, ◌++◌, Bool, true, false, Option, Some, None, if◌then◌else◌}
 use Rattle.std.proofs.lemmas.Bool.Decides.{nat_tests}
 use Rattle.rw_base.specs.declared.place.Place.{Place}
-use Rattle.rw_scoping.specs.Names.{is_before, earlier, earliest}
+use Rattle.rw_scope_rules.specs.Names.{is_before, earlier, earliest}
 use Rattle.rw_cover.specs.Walk.{sooner}
 
 same_place : (p q : Place) → p.line ≡ q.line → p.column ≡ q.column → p ≡ q

@@ -2,14 +2,14 @@
 use Rattle.std.proofs.Common.{◌≡◌, ◌∙◌, refl, sym, ap, subst, ℕ, List, [], ◌∷◌, ◌++◌, map, flat_map, Option, None}
 use Rattle.std.proofs.lemmas.Grind.{flat_map-append}
 use Rattle.rw_base.specs.declared.place.Place.{Place}
-use Rattle.rw_scoping.specs.declared.binding.Bound.{Bound}
-use Rattle.rw_scoping.specs.Names.{earliest}
-use Rattle.rw_scoping.specs.Nodes.{Node, declaration_nodes}
+use Rattle.rw_scope_rules.specs.declared.binding.Bound.{Bound}
+use Rattle.rw_scope_rules.specs.Names.{earliest}
+use Rattle.rw_scope_rules.specs.Nodes.{Node, declaration_nodes}
 use Rattle.rw_tree.specs.declared.decl.Decl.{Decl}
 use Rattle.rw_tree.specs.Declarations.{declaration, Declaration, import_declaration, data_declaration, fixity_declaration, signature_declaration, function_declaration}
-use Rattle.rw_coverage.specs.declared.known.Known.{Known}
-use Rattle.rw_coverage.specs.Rows.{counts_of, known_of}
-use Rattle.rw_coverage.specs.Coverage.{Group, declaration_groups, node_group}
+use Rattle.rw_cover.specs.declared.known.Known.{Known}
+use Rattle.rw_cover.specs.Rows.{counts_of, known_of}
+use Rattle.rw_cover.specs.Coverage.{Group, declaration_groups, node_group}
 use Rattle.rw_cover.specs.Correct.{IsFirst}
 use Rattle.rw_cover.specs.Walk.{sooner, own_groups}
 use Rattle.rw_cover.proofs.Places.{earliest-append, sooner_crossed}

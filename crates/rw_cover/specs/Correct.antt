@@ -4,11 +4,11 @@ use Rattle.std.specs.List.{AllByRecursion}
 use Rattle.rw_base.specs.declared.place.Place.{Place}
 use Rattle.rw_base.specs.declared.fail.Fail.{Fail}
 use Rattle.rw_base.specs.declared.fail.Fail.TheVariants.{OutOfMemory}
-use Rattle.rw_scoping.specs.Names.{earliest}
-use Rattle.pattern_matrix.specs.Values.{Shapes, Values, AreValues}
-use Rattle.pattern_matrix.specs.Matching.{PlainPattern, AreRowsOf}
-use Rattle.pattern_matrix.specs.Coverage.{Covers, some_row_matches}
-use Rattle.rw_coverage.specs.Coverage.{Group, AreUncovered}
+use Rattle.rw_scope_rules.specs.Names.{earliest}
+use Rattle.rw_cover_matrix.specs.Values.{Shapes, Values, AreValues}
+use Rattle.rw_cover_matrix.specs.Matching.{PlainPattern, AreRowsOf}
+use Rattle.rw_cover_matrix.specs.Coverage.{Covers, some_row_matches}
+use Rattle.rw_cover.specs.Coverage.{Group, AreUncovered}
 
 -- == Where E14 is broken ==
 

@@ -1,11 +1,11 @@
 -- What the walk over a program keeps: the sooner of two places, and the groups of declarations apart from those of nodes.
 use Rattle.std.specs.Prelude.{ℕ, List, [], Option, Some, None}
 use Rattle.rw_base.specs.declared.place.Place.{Place}
-use Rattle.rw_scoping.specs.declared.binding.Bound.{Bound}
-use Rattle.rw_scoping.specs.Names.{earlier}
+use Rattle.rw_scope_rules.specs.declared.binding.Bound.{Bound}
+use Rattle.rw_scope_rules.specs.Names.{earlier}
 use Rattle.rw_tree.specs.Declarations.{Declaration, function_declaration}
-use Rattle.rw_coverage.specs.declared.known.Known.{Known}
-use Rattle.rw_coverage.specs.Coverage.{Group, clauses_group}
+use Rattle.rw_cover.specs.declared.known.Known.{Known}
+use Rattle.rw_cover.specs.Coverage.{Group, clauses_group}
 
 -- the sooner of two places, either of which may be missing
 abbrev pub sooner : Option Place → Option Place → Option Place

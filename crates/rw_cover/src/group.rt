@@ -2,17 +2,17 @@
 ghost use Rattle.std.specs.Prelude.{◌≡◌, IfOk, map};
 ghost use Rattle.rw_tree.specs.Trees.{alternative_of, expression, local_binding, statement};
 ghost use Rattle.rw_tree.specs.Declarations.{declaration};
-ghost use Rattle.rw_scoping.specs.Nodes.{binding_node, expression_node, statement_node};
-ghost use Rattle.rw_nodes.specs.Plain.{plain_node};
-ghost use Rattle.rw_coverage.specs.Coverage.{clauses_group, node_group};
+ghost use Rattle.rw_scope_rules.specs.Nodes.{binding_node, expression_node, statement_node};
+ghost use Rattle.rw_scope_nodes.specs.Plain.{plain_node};
+ghost use Rattle.rw_cover.specs.Coverage.{clauses_group, node_group};
 ghost use Rattle.rw_cover.specs.Correct.{IsFirst};
 ghost use Rattle.rw_cover.specs.Walk.{own_groups};
 
 use crate::place::unless;
+use crate::{Known, clauses_cover, patterns_cover};
 use rw_base::{OutOfMemory, Place};
-use rw_coverage::{Known, clauses_cover, patterns_cover};
-use rw_nodes::Node;
-use rw_scoping::Bound;
+use rw_scope_nodes::Node;
+use rw_scope_rules::Bound;
 use rw_tree::{Alt, Decl, Expr, Local, Stmt};
 use std::alloc::Global;
 use std::slice;

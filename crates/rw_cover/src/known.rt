@@ -1,89 +1,56 @@
-// What `otherwise` and `True` are bound to.
-ghost use Rattle.std.specs.Prelude.{◌≡◌, IfOk, codes, map};
-ghost use Rattle.rw_tree.specs.Declarations.{declaration, plain_constructor};
-ghost use Rattle.rw_scoping.specs.Names.{first_named};
-ghost use Rattle.rw_scoping.specs.Bindings.{declared_by, declared_constructors, declared_variables, placed_constructors};
-ghost use Rattle.rw_coverage.specs.Rows.{known_of as known_by};
+// What the declarations of a program say: how many constructors a data type has, and which names are known to hold.
+ghost use Rattle.std.specs.Prelude.{◌≡◌, IfOk, map};
+ghost use Rattle.rw_tree.specs.Trees.{expression};
+ghost use Rattle.rw_tree.specs.Declarations.{declaration};
+ghost use Rattle.rw_cover.specs.Rows.{counts_of, is_bound_to, always_holds};
 
 use rw_base::OutOfMemory;
-use rw_coverage::Known;
-use rw_scoping::{Binding, Bound};
-use rw_tree::{Constructor, Decl};
+use rw_scope_rules::{Binding, Bound};
+use rw_tree::{Decl, Expr};
+use std::alloc::Global;
 
-// A number of 32 bits: more declarations are want of memory.
-fn number(at: usize) -> Result<u32, OutOfMemory>
-    ensures { IfOk result (λ number. number ≡ at) }
-{
-    if at > u32::MAX as usize {
-        return Err(OutOfMemory);
-    }
-    Ok(at as u32)
+/// What `otherwise` and `True` of the prelude are bound to.
+#[derive(Clone, Copy, Debug, PartialEq, Eq)]
+pub struct Known {
+    pub otherwise: Option<Binding>,
+    pub truth: Option<Binding>,
 }
 
-// The function or variable with this name: the first that these declarations declare.
-fn function_named(name: &[u8], decls: &[Decl<Bound>]) -> Result<Option<Binding>, OutOfMemory>
-    ensures { IfOk result (λ found. found ≡ first_named name.now (declared_by declared_variables 0 (map (declaration (λ a. a)) decls.now))) }
+/// How many constructors each declaration has, by its number: 0 where it is no data type.
+pub fn constructor_counts(alloc: Global, decls: &[Decl<Bound>]) -> Result<Vec<usize>, OutOfMemory>
+    ensures { IfOk result (λ counts. counts.items ≡ counts_of (map (declaration (λ a. a)) decls.now)) }
 {
-    for at in 0..decls.len() {
-        if let Decl::Fun(_, declared, _) = &decls[at] {
-            if declared.is(name) {
-                return Ok(Some(Binding::Declared(number(at)?)));
-            }
+    let mut counts = Vec::new(alloc);
+    for decl in decls {
+        let count = match decl {
+            Decl::Data(_, data) => data.constructors.len(),
+            _ => 0,
+        };
+        counts.push(count)?;
+    }
+    Ok(counts)
+}
+
+// Whether a name is bound to this function or constructor.
+fn is_bound(name: Option<Binding>, to: Option<Binding>) -> bool
+    ensures { result ≡ is_bound_to name to }
+{
+    match (name, to) {
+        (Some(Binding::Declared(m)), Some(Binding::Declared(n))) => m == n,
+        (Some(Binding::Constructor(m, j)), Some(Binding::Constructor(n, k))) => m == n && j == k,
+        _ => false,
+    }
+}
+
+impl Known {
+    // Whether a guard is known to hold: it is `otherwise` or `True`, by what they are bound to.
+    pub fn always(&self, test: &Expr<Bound>) -> bool
+        ensures { result ≡ always_holds self.now (expression (λ a. a) test.now) }
+    {
+        match test {
+            Expr::Var(at, _) => is_bound(at.bound, self.otherwise),
+            Expr::Con(at, _) => is_bound(at.bound, self.truth),
+            _ => false,
         }
     }
-    Ok(None)
-}
-
-// The constructor with this name among those of the declaration with this number.
-fn place_of(
-    name: &[u8],
-    decl: usize,
-    constructors: &[Constructor],
-) -> Result<Option<Binding>, OutOfMemory>
-    ensures { IfOk result (λ found. found ≡ first_named name.now (placed_constructors decl 0 (map plain_constructor constructors.now))) }
-{
-    for at in 0..constructors.len() {
-        if constructors[at].name.is(name) {
-            return Ok(Some(Binding::Constructor(number(decl)?, number(at)?)));
-        }
-    }
-    Ok(None)
-}
-
-// The constructor with this name that the declaration with this number declares.
-fn constructor_in(
-    name: &[u8],
-    at: usize,
-    decl: &Decl<Bound>,
-) -> Result<Option<Binding>, OutOfMemory>
-    ensures { IfOk result (λ found. found ≡ first_named name.now (declared_constructors at (declaration (λ a. a) decl.now))) }
-{
-    match decl {
-        Decl::Data(_, made) => place_of(name, at, made.constructors.as_slice()),
-        _ => Ok(None),
-    }
-}
-
-// The constructor with this name: the first that these declarations declare.
-fn constructor_named(name: &[u8], decls: &[Decl<Bound>]) -> Result<Option<Binding>, OutOfMemory>
-    ensures { IfOk result (λ found. found ≡ first_named name.now (declared_by declared_constructors 0 (map (declaration (λ a. a)) decls.now))) }
-{
-    for at in 0..decls.len() {
-        let found = constructor_in(name, at, &decls[at])?;
-        if found.is_some() {
-            return Ok(found);
-        }
-    }
-    Ok(None)
-}
-
-/// What `otherwise` and `True` are bound to in a program of these declarations: the first function and the first
-/// constructor with the name, which are the prelude's where the program begins with it. It takes no memory; a program with
-/// 2^32 declarations, or with a data type with as many constructors, counts as want of it.
-pub fn known_of(decls: &[Decl<Bound>]) -> Result<Known, OutOfMemory>
-    ensures { IfOk result (λ known. known ≡ known_by (map (declaration (λ a. a)) decls.now)) }
-{
-    let otherwise = function_named(b"otherwise", decls)?;
-    let truth = constructor_named(b"True", decls)?;
-    Ok(Known { otherwise, truth })
 }

@@ -1,10 +1,10 @@
 // Laws of the definitions: each is the contract of a function that does nothing.
 ghost use Rattle.std.specs.Prelude.{◌≡◌, ◌∷◌, [], List, Bool, false};
 ghost use Rattle.rw_base.specs.declared.place.Place.{Place};
-ghost use Rattle.pattern_matrix.specs.Values.{Shapes, Values, AreValues};
-ghost use Rattle.pattern_matrix.specs.Matching.{PlainPattern, constructed, no_patterns};
-ghost use Rattle.pattern_matrix.specs.Coverage.{Covers, Decides, some_row_matches};
-ghost use Rattle.rw_coverage.specs.Coverage.{AreUncovered, Group};
+ghost use Rattle.rw_cover_matrix.specs.Values.{Shapes, Values, AreValues};
+ghost use Rattle.rw_cover_matrix.specs.Matching.{PlainPattern, constructed, no_patterns};
+ghost use Rattle.rw_cover_matrix.specs.Coverage.{Covers, Decides, some_row_matches};
+ghost use Rattle.rw_cover.specs.Coverage.{AreUncovered, Group};
 ghost use Rattle.rw_cover.specs.Correct.{AllHaveTypes};
 
 /// Groups of rows are uncovered at one list of places at most, if the rows of each may stand at some types. Of rows that

@@ -1,6 +1,6 @@
 // The sooner of two places in a source.
 ghost use Rattle.std.specs.Prelude.{◌≡◌, if◌then◌else◌};
-ghost use Rattle.rw_scoping.specs.Names.{is_before};
+ghost use Rattle.rw_scope_rules.specs.Names.{is_before};
 ghost use Rattle.rw_cover.specs.Walk.{sooner as sooner_of};
 
 use rw_base::Place;

@@ -6,8 +6,8 @@ ghost use Rattle.rw_base.specs.declared.rule.Rule.TheVariants.{E14};
 ghost use Rattle.rw_base.specs.declared.fail.Refusal.{Refusal as PlainRefusal};
 ghost use Rattle.rw_base.specs.declared.fail.Fail.TheVariants as fail;
 ghost use Rattle.rw_tree.specs.Declarations.{declaration, plain_program};
-ghost use Rattle.rw_nodes.specs.Plain.{plain_nodes};
-ghost use Rattle.rw_coverage.specs.Coverage.{AreUncovered, groups_of, node_group};
+ghost use Rattle.rw_scope_nodes.specs.Plain.{plain_nodes};
+ghost use Rattle.rw_cover.specs.Coverage.{AreUncovered, groups_of, node_group};
 ghost use Rattle.rw_cover.specs.Correct.{AllHaveTypes, IsCovered, IsFirst, IsUnlessMemory, LeaveOverAt};
 ghost use Rattle.rw_cover.specs.Walk.{own_groups};
 
@@ -15,10 +15,10 @@ use crate::group::{node_place, own_place};
 use crate::known::known_of;
 use crate::laws::places_law;
 use crate::place::sooner;
+use crate::{Known, constructor_counts};
 use rw_base::{Fail, OutOfMemory, Place, Refusal, Rule};
-use rw_coverage::{Known, constructor_counts};
-use rw_nodes::{Node, nodes};
-use rw_scoping::Bound;
+use rw_scope_nodes::{Node, nodes};
+use rw_scope_rules::Bound;
 use rw_tree::{Decl, Program};
 use std::alloc::Global;
 

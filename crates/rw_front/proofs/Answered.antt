@@ -6,13 +6,13 @@ use Rattle.rw_base.specs.declared.fail.Fail.TheVariants as fail
 use Rattle.rw_base.specs.declared.fail.Refusal.{Refusal}
 use Rattle.rw_tree.specs.declared.program.Program.{Program}
 use Rattle.rw_tree.specs.Declarations.{Declaration, PlainProgram, plain_program}
-use Rattle.rw_scoping.specs.declared.binding.Bound.{Bound}
-use Rattle.rw_scoping.specs.Bindings.{tops_of, bound_program}
-use Rattle.rw_typing.specs.Schemes.{World, world_of}
-use Rattle.rw_typing.specs.TypedTrees.{TypedNode}
-use Rattle.rw_typing.specs.Typings.{IsTypable, IsDefault}
-use Rattle.rw_infer.specs.declared.typed.TypedDecl.{TypedDecl}
-use Rattle.rw_infer.specs.Inferred.{AreDefault, AreTypable, IsInferred}
+use Rattle.rw_scope_rules.specs.declared.binding.Bound.{Bound}
+use Rattle.rw_scope_rules.specs.Bindings.{tops_of, bound_program}
+use Rattle.rw_types_rules.specs.Schemes.{World, world_of}
+use Rattle.rw_types_rules.specs.TypedTrees.{TypedNode}
+use Rattle.rw_types_rules.specs.Typings.{IsTypable, IsDefault}
+use Rattle.rw_types.specs.declared.typed.TypedDecl.{TypedDecl}
+use Rattle.rw_types.specs.Inferred.{AreDefault, AreTypable, IsInferred}
 use Rattle.rw_front.specs.declared.source.Checked.{Checked}
 use Rattle.rw_front.specs.Stages.{Stage, ◌then◌, Answers}
 use Rattle.rw_front.specs.Verdict.{IsRead, with_prelude, told_of, BeginsWithPrelude, Keeps, IsScopedAs, IsTypedAs, IsCoveredAs, StartsAs, Verdict}

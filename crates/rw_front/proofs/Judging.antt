@@ -6,16 +6,16 @@ use Rattle.rw_base.specs.declared.place.Span.{Span}
 use Rattle.rw_base.specs.declared.fail.Refusal.{Refusal}
 use Rattle.rw_tree.specs.declared.program.Program.{Program}
 use Rattle.rw_tree.specs.Declarations.{Declaration, PlainProgram}
-use Rattle.rw_scoping.specs.declared.binding.Bound.{Bound}
-use Rattle.rw_scoping.specs.Names.{earliest}
-use Rattle.rw_scoping.specs.Bindings.{bound_program}
-use Rattle.rw_scoping.specs.Kinds.{recursive_or_empty}
-use Rattle.rw_scoping.specs.Verdict.{IsScoped, first_broken}
-use Rattle.rw_typing.specs.Schemes.{World, world_of}
-use Rattle.rw_typing.specs.Typings.{IsTypable}
-use Rattle.rw_coverage.specs.Coverage.{AreUncovered, groups_of}
-use Rattle.rw_shapes.specs.Typed.{IsTypableProgram}
-use Rattle.rw_infer.specs.Inferred.{AreTypable, FirstUntypable}
+use Rattle.rw_scope_rules.specs.declared.binding.Bound.{Bound}
+use Rattle.rw_scope_rules.specs.Names.{earliest}
+use Rattle.rw_scope_rules.specs.Bindings.{bound_program}
+use Rattle.rw_scope_rules.specs.Kinds.{recursive_or_empty}
+use Rattle.rw_scope_rules.specs.Verdict.{IsScoped, first_broken}
+use Rattle.rw_types_rules.specs.Schemes.{World, world_of}
+use Rattle.rw_types_rules.specs.Typings.{IsTypable}
+use Rattle.rw_cover.specs.Coverage.{AreUncovered, groups_of}
+use Rattle.rw_cover_laws.specs.Typed.{IsTypableProgram}
+use Rattle.rw_types.specs.Inferred.{AreTypable, FirstUntypable}
 use Rattle.rw_front.specs.Stages.{◌then◌, IsExactAt}
 use Rattle.rw_front.specs.Verdict.{reported, BeginsWithPrelude, Keeps, IsScopedAs, IsTypedAs, IsCoveredAs, StartsAs}
 use Rattle.rw_front.proofs.Exact.{then_exact}

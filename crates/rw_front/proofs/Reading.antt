@@ -10,9 +10,9 @@ use Rattle.rw_layout.specs.Layout.{layout_of}
 use Rattle.rw_tree.specs.declared.program.Program.{Program}
 use Rattle.rw_lex.specs.declared.token.Token.{Token}
 use Rattle.rw_lex.specs.Tokens.{IsTokenList, Breaks}
-use Rattle.rw_grammar.specs.Chains.{strength_of_name}
-use Rattle.rw_grammar.specs.Grammar.{Spells, IsNotOfTheGrammar}
-use Rattle.rw_grammar.specs.Resolution.{IsProgramResolved, FirstDeclarationBroken}
+use Rattle.rw_parser_grammar.specs.Chains.{strength_of_name}
+use Rattle.rw_parser_grammar.specs.Grammar.{Spells, IsNotOfTheGrammar}
+use Rattle.rw_parser_grammar.specs.Resolution.{IsProgramResolved, FirstDeclarationBroken}
 use Rattle.rw_parser.specs.Frame.{IsBroken, Parses}
 use Rattle.rw_front.specs.Stages.{◌then◌, IsExactAt, Answers}
 use Rattle.rw_front.specs.Verdict.{most_bytes, IsShort, HasTokens, IsLaidOut, IsParsed, IsRead}

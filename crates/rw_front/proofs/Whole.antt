@@ -7,14 +7,14 @@ use Rattle.rw_tree.specs.declared.program.Program.{Program}
 use Rattle.rw_tree.specs.Declarations.{PlainProgram}
 use Rattle.rw_lex.specs.declared.token.Token.{Token}
 use Rattle.rw_lex.specs.Tokens.{IsTokenList, Breaks}
-use Rattle.rw_grammar.specs.Chains.{strength_of_name}
-use Rattle.rw_grammar.specs.Grammar.{Spells, IsNotOfTheGrammar}
-use Rattle.rw_grammar.specs.Resolution.{IsProgramResolved, FirstDeclarationBroken}
-use Rattle.rw_scoping.specs.Bindings.{bound_program}
-use Rattle.rw_scoping.specs.Kinds.{recursive_or_empty}
-use Rattle.rw_scoping.specs.Verdict.{IsScoped, first_broken}
-use Rattle.rw_coverage.specs.Coverage.{AreUncovered, groups_of}
-use Rattle.rw_shapes.specs.Typed.{IsTypableProgram}
+use Rattle.rw_parser_grammar.specs.Chains.{strength_of_name}
+use Rattle.rw_parser_grammar.specs.Grammar.{Spells, IsNotOfTheGrammar}
+use Rattle.rw_parser_grammar.specs.Resolution.{IsProgramResolved, FirstDeclarationBroken}
+use Rattle.rw_scope_rules.specs.Bindings.{bound_program}
+use Rattle.rw_scope_rules.specs.Kinds.{recursive_or_empty}
+use Rattle.rw_scope_rules.specs.Verdict.{IsScoped, first_broken}
+use Rattle.rw_cover.specs.Coverage.{AreUncovered, groups_of}
+use Rattle.rw_cover_laws.specs.Typed.{IsTypableProgram}
 use Rattle.rw_front.specs.Stages.{◌then◌, IsExactAt}
 use Rattle.rw_front.specs.Verdict.{IsRead, BeginsWithPrelude, Keeps, IsScopedAs, IsTypedAs, IsCoveredAs, StartsAs, Verdict}
 use Rattle.rw_front.proofs.Exact.{then_exact}

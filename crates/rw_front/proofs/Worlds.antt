@@ -8,12 +8,12 @@ use Rattle.rw_tree.specs.declared.types.Kind.{Kind}
 use Rattle.rw_tree.specs.declared.types.Kind.TheVariants as k
 use Rattle.rw_tree.specs.Types.{WrittenType}
 use Rattle.rw_tree.specs.Declarations.{Declaration, import_declaration, data_declaration, fixity_declaration, signature_declaration, function_declaration, declaration}
-use Rattle.rw_scoping.specs.declared.binding.Bound.{Bound}
-use Rattle.rw_scoping.specs.Names.{Bytes, first_named}
-use Rattle.rw_scoping.specs.Bindings.{Tops, bound_declarations}
-use Rattle.rw_scoping.specs.Kinds.{data_kinds, computations, takes_in_signature}
-use Rattle.rw_typing.specs.Written.{data_types_from}
-use Rattle.rw_typing.specs.Schemes.{Scheme, World, signatures_in, signature_scheme, scheme_if, declared_scheme, constructor_schemes, constructed_from, world_of}
+use Rattle.rw_scope_rules.specs.declared.binding.Bound.{Bound}
+use Rattle.rw_scope_rules.specs.Names.{Bytes, first_named}
+use Rattle.rw_scope_rules.specs.Bindings.{Tops, bound_declarations}
+use Rattle.rw_scope_rules.specs.Kinds.{data_kinds, computations, takes_in_signature}
+use Rattle.rw_types_rules.specs.Written.{data_types_from}
+use Rattle.rw_types_rules.specs.Schemes.{Scheme, World, signatures_in, signature_scheme, scheme_if, declared_scheme, constructor_schemes, constructed_from, world_of}
 
 abbrev pub nowhere : Span
 nowhere = record { first = record { line = 0; column = 0 }; from = 0; to = 0 }

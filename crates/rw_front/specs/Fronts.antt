@@ -4,9 +4,9 @@ use Rattle.rw_base.specs.declared.place.Span.{Span}
 use Rattle.rw_base.specs.declared.fail.Fail.{Fail}
 use Rattle.rw_base.specs.declared.fail.Fail.TheVariants as fail
 use Rattle.rw_tree.specs.Declarations.{PlainProgram, plain_program}
-use Rattle.rw_scoping.specs.Bindings.{bound_program}
-use Rattle.rw_typing.specs.Schemes.{world_of}
-use Rattle.rw_infer.specs.Inferred.{seen, AreDefault}
+use Rattle.rw_scope_rules.specs.Bindings.{bound_program}
+use Rattle.rw_types_rules.specs.Schemes.{world_of}
+use Rattle.rw_types.specs.Inferred.{seen, AreDefault}
 use Rattle.rw_front.specs.declared.source.Checked.{Checked}
 use Rattle.rw_front.specs.Verdict.{Verdict}
 

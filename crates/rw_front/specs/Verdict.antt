@@ -12,16 +12,16 @@ use Rattle.rw_prelude.specs.PreludeText.{prelude}
 use Rattle.rw_lex.specs.declared.token.Token.{Token}
 use Rattle.rw_lex.specs.Tokens.{IsTokenList, Breaks}
 use Rattle.rw_layout.specs.Layout.{layout_of}
-use Rattle.rw_grammar.specs.Grammar.{Spells, IsNotOfTheGrammar}
-use Rattle.rw_grammar.specs.Resolution.{IsProgramResolved}
+use Rattle.rw_parser_grammar.specs.Grammar.{Spells, IsNotOfTheGrammar}
+use Rattle.rw_parser_grammar.specs.Resolution.{IsProgramResolved}
 use Rattle.rw_parser.specs.Frame.{IsBroken}
-use Rattle.rw_scoping.specs.Bindings.{bound_program}
-use Rattle.rw_scoping.specs.Names.{is_among, earliest}
-use Rattle.rw_scoping.specs.Verdict.{broken_first, first_broken}
-use Rattle.rw_coverage.specs.Coverage.{AreUncovered, groups_of}
+use Rattle.rw_scope_rules.specs.Bindings.{bound_program}
+use Rattle.rw_scope_rules.specs.Names.{is_among, earliest}
+use Rattle.rw_scope_rules.specs.Verdict.{broken_first, first_broken}
+use Rattle.rw_cover.specs.Coverage.{AreUncovered, groups_of}
 use Rattle.rw_cover.specs.Correct.{IsFirst}
-use Rattle.rw_typing.specs.Schemes.{world_of}
-use Rattle.rw_infer.specs.Inferred.{AreTypable, FirstUntypable}
+use Rattle.rw_types_rules.specs.Schemes.{world_of}
+use Rattle.rw_types.specs.Inferred.{AreTypable, FirstUntypable}
 use Rattle.rw_start.specs.Start.{improper_start}
 use Rattle.rw_start.specs.Positions.{misplaced}
 use Rattle.rw_front.specs.Stages.{Stage, ◌then◌}

@@ -8,10 +8,10 @@ ghost use Rattle.rw_front.specs.Fronts.{Fronts};
 use crate::read::read;
 use crate::stages::{covered, scoped, started, typed};
 use rw_base::{Fail, OutOfMemory, Span};
-use rw_infer::TypedDecl;
 use rw_prelude::prelude_decls;
-use rw_scoping::Bound;
+use rw_scope_rules::Bound;
 use rw_tree::Program;
+use rw_types::TypedDecl;
 use sqlite_items::Items;
 use std::alloc::Global;
 

@@ -1,20 +1,20 @@
 // The rules on the tree, E06 to E16: each stage's answer, with a place in the prelude reported as that of `start`.
 ghost use Rattle.std.specs.Prelude.{◌≡◌, IfOk, map};
 ghost use Rattle.rw_tree.specs.Declarations.{plain_program};
-ghost use Rattle.rw_scoping.specs.Bindings.{bound_program};
-ghost use Rattle.rw_typing.specs.Schemes.{world_of};
-ghost use Rattle.rw_infer.specs.Inferred.{seen, AreDefault};
+ghost use Rattle.rw_scope_rules.specs.Bindings.{bound_program};
+ghost use Rattle.rw_types_rules.specs.Schemes.{world_of};
+ghost use Rattle.rw_types.specs.Inferred.{seen, AreDefault};
 ghost use Rattle.rw_front.specs.Stages.{Answers};
 ghost use Rattle.rw_front.specs.Verdict.{told_of, Keeps, IsScopedAs, IsTypedAs, IsCoveredAs, StartsAs};
 
 use crate::report::reported;
 use rw_base::{Fail, Span};
 use rw_cover::cover;
-use rw_infer::{TypedDecl, infer};
 use rw_scope::scope;
-use rw_scoping::{Bound, Scoped};
+use rw_scope_rules::{Bound, Scoped};
 use rw_start::check_start;
 use rw_tree::Program;
+use rw_types::{TypedDecl, infer};
 use sqlite_items::Items;
 use std::alloc::Global;
 

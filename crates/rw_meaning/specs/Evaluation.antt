@@ -3,12 +3,12 @@
 -- Evaluation has a budget, and what it evaluates on the way has one less. Where the budget ends, where no row is taken, or where a thing has a wrong
 -- shape, there is no result.
 use Rattle.std.specs.Prelude.{ℕ, zero, suc, ◌-◌, nat_eq, nat_le, List, [], ◌∷◌, length, Option, Some, None, if◌then◌else◌}
-use Rattle.rw_scoping.specs.declared.binding.Operation.{Operation}
-use Rattle.rw_scoping.specs.declared.binding.Operation.TheVariants.{Bind, Then}
-use Rattle.rw_scoping.specs.declared.binding.Binding.{Binding}
-use Rattle.rw_scoping.specs.declared.binding.Binding.TheVariants.{Declared, Operation as Operates, Constructor as Constructs, Local}
-use Rattle.rw_scoping.specs.declared.binding.Bound.{Bound}
-use Rattle.rw_scoping.specs.Bindings.{binding_variables, group_variables}
+use Rattle.rw_scope_rules.specs.declared.binding.Operation.{Operation}
+use Rattle.rw_scope_rules.specs.declared.binding.Operation.TheVariants.{Bind, Then}
+use Rattle.rw_scope_rules.specs.declared.binding.Binding.{Binding}
+use Rattle.rw_scope_rules.specs.declared.binding.Binding.TheVariants.{Declared, Operation as Operates, Constructor as Constructs, Local}
+use Rattle.rw_scope_rules.specs.declared.binding.Bound.{Bound}
+use Rattle.rw_scope_rules.specs.Bindings.{binding_variables, group_variables}
 use Rattle.rw_tree.specs.Patterns.{Pattern, wildcard, variable_pattern, constructor_pattern, tuple_pattern, Patterns, no_patterns, more_patterns}
 use Rattle.rw_tree.specs.Trees.{Expression, variable, constructor, application, tuple, chain, lambda, let_in, if_then_else, case_of, do_block, Expressions, no_expressions, more_expressions}
 use Rattle.rw_tree.specs.Trees.{Alternative, alternative, Alternatives, no_alternatives, more_alternatives, alternative_parts, RightSide, plain_side, guarded_side, guarded_body, GuardedBodies, no_bodies, more_bodies}

@@ -1,9 +1,9 @@
 -- What an expression evaluates to, and what is kept of an expression that is not evaluated yet (Haskell 2010 Report,
 -- section 3: arguments, fields and the names of a `let` are evaluated when they are needed).
 use Rattle.std.specs.Prelude.{ℕ, zero, suc, List, Option, Some, None}
-use Rattle.rw_scoping.specs.declared.binding.Operation.{Operation}
-use Rattle.rw_scoping.specs.declared.binding.Operation.TheVariants.{Return, Bind, Then, Get, Put, Lift, Signal, Extrude, Par, Refold}
-use Rattle.rw_scoping.specs.declared.binding.Bound.{Bound}
+use Rattle.rw_scope_rules.specs.declared.binding.Operation.{Operation}
+use Rattle.rw_scope_rules.specs.declared.binding.Operation.TheVariants.{Return, Bind, Then, Get, Put, Lift, Signal, Extrude, Par, Refold}
+use Rattle.rw_scope_rules.specs.declared.binding.Bound.{Bound}
 use Rattle.rw_tree.specs.Patterns.{Pattern}
 use Rattle.rw_tree.specs.Trees.{Expression, Alternatives, RightSide, LocalBindings}
 use Rattle.rw_core.specs.Values.{Val, Vals, val, none, more}

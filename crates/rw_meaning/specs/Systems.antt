@@ -1,11 +1,11 @@
 -- The system that the body of `start` is: devices side by side, and devices whose outputs are fed back. `par` and `refold` stand only as heads
 -- of applications on the way to a leaf.
 use Rattle.std.specs.Prelude.{List, [], ◌∷◌, codes, Option, Some, None, if◌then◌else◌}
-use Rattle.rw_scoping.specs.declared.binding.Operation.TheVariants.{Par, Refold}
-use Rattle.rw_scoping.specs.declared.binding.Binding.{Binding}
-use Rattle.rw_scoping.specs.declared.binding.Binding.TheVariants.{Operation as Operates}
-use Rattle.rw_scoping.specs.declared.binding.Bound.{Bound}
-use Rattle.rw_scoping.specs.Names.{is_among}
+use Rattle.rw_scope_rules.specs.declared.binding.Operation.TheVariants.{Par, Refold}
+use Rattle.rw_scope_rules.specs.declared.binding.Binding.{Binding}
+use Rattle.rw_scope_rules.specs.declared.binding.Binding.TheVariants.{Operation as Operates}
+use Rattle.rw_scope_rules.specs.declared.binding.Bound.{Bound}
+use Rattle.rw_scope_rules.specs.Names.{is_among}
 use Rattle.rw_tree.specs.Trees.{Expression, variable, application, Expressions, no_expressions, more_expressions, Alternative, alternative, plain_side, LocalBindings}
 use Rattle.rw_tree.specs.Declarations.{Declaration, function_declaration}
 

@@ -3,8 +3,8 @@
 --
 -- Each state action, trace or evaluation on the way has a budget that is one less.
 use Rattle.std.specs.Prelude.{ℕ, zero, suc, List, [], ◌∷◌, ◌++◌, Option, Some, None}
-use Rattle.rw_scoping.specs.declared.binding.Operation.TheVariants.{Return, Bind, Then, Get, Put, Lift, Signal, Extrude}
-use Rattle.rw_scoping.specs.declared.binding.Bound.{Bound}
+use Rattle.rw_scope_rules.specs.declared.binding.Operation.TheVariants.{Return, Bind, Then, Get, Put, Lift, Signal, Extrude}
+use Rattle.rw_scope_rules.specs.declared.binding.Bound.{Bound}
 use Rattle.rw_tree.specs.Declarations.{Declaration}
 use Rattle.rw_core.specs.Values.{Val}
 use Rattle.rw_meaning.specs.Options.{◌>>=◌}

@@ -1,6 +1,6 @@
 // Laws of the definitions: each is the contract of a function that does nothing.
 ghost use Rattle.std.specs.Prelude.{◌≡◌, ◌+◌, ℕ, List, Some};
-ghost use Rattle.rw_scoping.specs.declared.binding.Bound.{Bound};
+ghost use Rattle.rw_scope_rules.specs.declared.binding.Bound.{Bound};
 ghost use Rattle.rw_tree.specs.Declarations.{Declaration};
 ghost use Rattle.rw_core.specs.Values.{Val};
 ghost use Rattle.rw_meaning.specs.Results.{Outcome, Thunk, Thunks};

@@ -1,17 +1,17 @@
 -- Data types and signatures are read alike with a level for each token of theirs and with any more.
 use Rattle.std.proofs.Common.{◌≡◌, ℕ, suc, ◌≤◌, List, [], ◌∷◌, length, drop, refl, sym, arith}
 use Rattle.rw_tree.specs.declared.types.Written.{Written}
-use Rattle.rw_grammar.specs.declared.lexeme.Lexeme.{Lexeme}
-use Rattle.rw_grammar.specs.declared.lexeme.Mark.TheVariants as m
-use Rattle.rw_grammar.specs.declared.lexeme.Lexeme.TheVariants as t
-use Rattle.rw_grammar.specs.Read.{Read, sees, after, separated_at, constructor_at}
-use Rattle.rw_grammar.specs.ReadTypes.{atype_at, atypes_at, type_at}
-use Rattle.rw_grammar.specs.ReadDeclarations.{parameters_at, data_constructor_at, constructors_at, deriving_at, data_at, newtype_at, monad_at, monads_at, given_context_at, begins_context, context_at, signed_name_at, signature_at}
-use Rattle.rw_grammar.proofs.ReadData.{parameters_runs, deriving_runs}
-use Rattle.rw_grammar.proofs.ReadSignatures.{monad_exact, signed_exact}
-use Rattle.rw_grammar.proofs.Alike.{Alike, alike_none, alike_some, alike_if, alike_bind, alike_after, exact_alike, runs_alike, left, Agree, Pass, drop_shorter, separated_alike, atype_alike, atypes_alike}
-use Rattle.rw_patterns.specs.Depth.{any_type_at}
-use Rattle.rw_patterns.proofs.Enough.{type_enough, any_type_shrinks}
+use Rattle.rw_parser_grammar.specs.declared.lexeme.Lexeme.{Lexeme}
+use Rattle.rw_parser_grammar.specs.declared.lexeme.Mark.TheVariants as m
+use Rattle.rw_parser_grammar.specs.declared.lexeme.Lexeme.TheVariants as t
+use Rattle.rw_parser_grammar.specs.Read.{Read, sees, after, separated_at, constructor_at}
+use Rattle.rw_parser_grammar.specs.ReadTypes.{atype_at, atypes_at, type_at}
+use Rattle.rw_parser_grammar.specs.ReadDeclarations.{parameters_at, data_constructor_at, constructors_at, deriving_at, data_at, newtype_at, monad_at, monads_at, given_context_at, begins_context, context_at, signed_name_at, signature_at}
+use Rattle.rw_parser_grammar.proofs.ReadData.{parameters_runs, deriving_runs}
+use Rattle.rw_parser_grammar.proofs.ReadSignatures.{monad_exact, signed_exact}
+use Rattle.rw_parser_grammar.proofs.Alike.{Alike, alike_none, alike_some, alike_if, alike_bind, alike_after, exact_alike, runs_alike, left, Agree, Pass, drop_shorter, separated_alike, atype_alike, atypes_alike}
+use Rattle.rw_parser_patterns.specs.Depth.{any_type_at}
+use Rattle.rw_parser_patterns.proofs.Enough.{type_enough, any_type_shrinks}
 
 constructor_alike : (ts : List Lexeme) → Alike left (length ts) (constructor_at ts) (constructor_at ts)
 constructor_alike [] = alike_none

@@ -6,3 +6,7 @@ pub mod Spelled
 pub mod Turns
 pub mod Framed
 pub mod Whole
+-- Proofs: runs by their number of tokens, joining from the left, and what is kept.
+pub mod Joins
+pub mod Runs
+pub mod Keeping

@@ -1,23 +1,23 @@
 -- One run, from what its item is if it is kept.
 use Rattle.std.proofs.Common.{◌≡◌, ◌∙◌, ℕ, ◌≤◌, Bool, true, false, cond, List, [], ◌∷◌, length, Option, Some, None, Err, refl, sym, ap}
 use Rattle.rw_base.specs.declared.place.Place.{Place}
-use Rattle.rw_grammar.specs.declared.item.Item.{Item}
-use Rattle.rw_grammar.specs.declared.lexeme.Lexeme.{Lexeme}
-use Rattle.rw_grammar.specs.Frames.{frames_of_item, kept, cut}
-use Rattle.rw_grammar.specs.Levels.{max_levels}
-use Rattle.rw_grammar.specs.Grammar.{whole_run}
-use Rattle.rw_grammar.specs.Lexemes.{next_spot}
-use Rattle.rw_grammar.specs.Read.{◌>>=◌, Read}
-use Rattle.rw_grammar.specs.ReadDeclarations.{item_at}
-use Rattle.rw_grammar.specs.ReadProgram.{is_last, item_of, item_before, items_at}
-use Rattle.rw_grammar.specs.Shallow.{item_place}
-use Rattle.rw_grammar.proofs.ReadProgram.{item_sound}
-use Rattle.rw_grammar.proofs.Shallow.{place_of_item}
+use Rattle.rw_parser_grammar.specs.declared.item.Item.{Item}
+use Rattle.rw_parser_grammar.specs.declared.lexeme.Lexeme.{Lexeme}
+use Rattle.rw_parser_grammar.specs.Frames.{frames_of_item, kept, cut}
+use Rattle.rw_parser_grammar.specs.Levels.{max_levels}
+use Rattle.rw_parser_grammar.specs.Grammar.{whole_run}
+use Rattle.rw_parser_grammar.specs.Lexemes.{next_spot}
+use Rattle.rw_parser_grammar.specs.Read.{◌>>=◌, Read}
+use Rattle.rw_parser_grammar.specs.ReadDeclarations.{item_at}
+use Rattle.rw_parser_grammar.specs.ReadProgram.{is_last, item_of, item_before, items_at}
+use Rattle.rw_parser_grammar.specs.Shallow.{item_place}
+use Rattle.rw_parser_grammar.proofs.ReadProgram.{item_sound}
+use Rattle.rw_parser_grammar.proofs.Shallow.{place_of_item}
 use Rattle.rw_parser.specs.Kept.{item_kept}
-use Rattle.rw_runs.specs.Shallow.{Kept, with_kept, kept_behind}
+use Rattle.rw_parser.specs.Shallow.{Kept, with_kept, kept_behind}
 use Rattle.rw_parser.specs.Reading.{run_kept}
 use Rattle.rw_parser.proofs.Items.{item_cut}
-use Rattle.rw_runs.proofs.Keeping.{kept_next}
+use Rattle.rw_parser.proofs.Keeping.{kept_next}
 
 -- ---- the item of a run, as the code finds it
 module _ (n : ℕ) (ts run : List Lexeme) (end : Lexeme) (w : ts ≡ whole_run run end) where

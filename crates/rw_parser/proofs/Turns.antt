@@ -5,15 +5,15 @@ use Rattle.std.proofs.lemmas.Grind.{common_steps}
 use Rattle.rw_base.specs.declared.place.Place.{Place}
 use Rattle.rw_base.specs.declared.fail.Fail.{Fail}
 use Rattle.rw_base.specs.declared.fail.Fail.TheVariants as fail
-use Rattle.rw_grammar.specs.declared.item.Item.{Item}
-use Rattle.rw_grammar.specs.declared.lexeme.Mark.TheVariants as m
-use Rattle.rw_grammar.specs.declared.lexeme.Lexeme.{Lexeme}
-use Rattle.rw_grammar.specs.Grammar.{whole_run}
-use Rattle.rw_grammar.specs.Lexemes.{next_spot}
-use Rattle.rw_grammar.specs.Read.{sees}
-use Rattle.rw_grammar.specs.ReadProgram.{run_at, runs_at, items_at}
-use Rattle.rw_runs.specs.Shallow.{Kept, with_kept, kept_behind}
-use Rattle.rw_runs.proofs.Runs.{whole_taken, one_run, last_run, no_run, runs_left}
+use Rattle.rw_parser_grammar.specs.declared.item.Item.{Item}
+use Rattle.rw_parser_grammar.specs.declared.lexeme.Mark.TheVariants as m
+use Rattle.rw_parser_grammar.specs.declared.lexeme.Lexeme.{Lexeme}
+use Rattle.rw_parser_grammar.specs.Grammar.{whole_run}
+use Rattle.rw_parser_grammar.specs.Lexemes.{next_spot}
+use Rattle.rw_parser_grammar.specs.Read.{sees}
+use Rattle.rw_parser_grammar.specs.ReadProgram.{run_at, runs_at, items_at}
+use Rattle.rw_parser.specs.Shallow.{Kept, with_kept, kept_behind}
+use Rattle.rw_parser.proofs.Runs.{whole_taken, one_run, last_run, no_run, runs_left}
 use Rattle.rw_parser.specs.Reading.{run_kept, Answers, AnswersRun}
 use Rattle.rw_parser.proofs.Spelled.{run_next, run_refused}
 

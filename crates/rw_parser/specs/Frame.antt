@@ -7,14 +7,14 @@ use Rattle.rw_base.specs.declared.fail.Fail.TheVariants as fail
 use Rattle.rw_base.specs.declared.rule.Rule.TheVariants as rule
 use Rattle.rw_tree.specs.declared.program.Program.{Program}
 use Rattle.rw_lex.specs.declared.token.Token.{Token}
-use Rattle.rw_grammar.specs.declared.lexeme.Mark.TheVariants as m
-use Rattle.rw_grammar.specs.declared.lexeme.Lexeme.{Lexeme}
-use Rattle.rw_grammar.specs.Chains.{strength_of_name}
-use Rattle.rw_grammar.specs.Grammar.{Spells, IsNotOfTheGrammar, first_place}
-use Rattle.rw_grammar.specs.Read.{◌>>=◌, after}
-use Rattle.rw_grammar.specs.ReadProgram.{header_at, items_at}
-use Rattle.rw_grammar.specs.Resolution.{IsProgramResolved, FirstDeclarationBroken}
-use Rattle.rw_runs.specs.Shallow.{Kept, nothing, kept_behind}
+use Rattle.rw_parser_grammar.specs.declared.lexeme.Mark.TheVariants as m
+use Rattle.rw_parser_grammar.specs.declared.lexeme.Lexeme.{Lexeme}
+use Rattle.rw_parser_grammar.specs.Chains.{strength_of_name}
+use Rattle.rw_parser_grammar.specs.Grammar.{Spells, IsNotOfTheGrammar, first_place}
+use Rattle.rw_parser_grammar.specs.Read.{◌>>=◌, after}
+use Rattle.rw_parser_grammar.specs.ReadProgram.{header_at, items_at}
+use Rattle.rw_parser_grammar.specs.Resolution.{IsProgramResolved, FirstDeclarationBroken}
+use Rattle.rw_parser.specs.Shallow.{Kept, nothing, kept_behind}
 
 -- the tokens behind the outer opening brace
 unfoldable pub frame_tokens : List Lexeme → Option (List Lexeme)

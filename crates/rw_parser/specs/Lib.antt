@@ -4,3 +4,7 @@ pub mod Frame
 pub mod Clauses
 pub mod Kept
 pub mod Reading
+-- What functions inside promise each other, and callers.
+pub mod Runs
+pub mod Joined
+pub mod Shallow

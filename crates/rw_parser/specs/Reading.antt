@@ -4,13 +4,13 @@ use Rattle.rw_base.specs.declared.place.Place.{Place}
 use Rattle.rw_base.specs.declared.fail.Fail.{Fail}
 use Rattle.rw_base.specs.declared.fail.Fail.TheVariants as fail
 use Rattle.rw_base.specs.declared.rule.Rule.TheVariants as rule
-use Rattle.rw_grammar.specs.declared.item.Item.{Item}
-use Rattle.rw_grammar.specs.declared.lexeme.Lexeme.{Lexeme}
-use Rattle.rw_grammar.specs.Read.{◌>>=◌}
-use Rattle.rw_grammar.specs.Grammar.{whole_run}
-use Rattle.rw_grammar.specs.ReadProgram.{is_last, items_at}
+use Rattle.rw_parser_grammar.specs.declared.item.Item.{Item}
+use Rattle.rw_parser_grammar.specs.declared.lexeme.Lexeme.{Lexeme}
+use Rattle.rw_parser_grammar.specs.Read.{◌>>=◌}
+use Rattle.rw_parser_grammar.specs.Grammar.{whole_run}
+use Rattle.rw_parser_grammar.specs.ReadProgram.{is_last, items_at}
 use Rattle.rw_parser.specs.Kept.{item_kept}
-use Rattle.rw_runs.specs.Shallow.{Kept, kept_behind}
+use Rattle.rw_parser.specs.Shallow.{Kept, kept_behind}
 
 -- the item of a run, if it is kept
 unfoldable pub run_kept : ℕ → List Lexeme → Lexeme → Option (Option Item)

@@ -1,17 +1,17 @@
 // One item of a program, from its first token to the one behind its last, over the reader of a clause. The grammar rule
 // stands above each function.
 ghost use Rattle.std.specs.Prelude.{◌≡◌, ◌≤◌, ℕ, length};
-ghost use Rattle.rw_grammar.specs.ReadClauses as clauses;
-ghost use Rattle.rw_grammar.specs.ReadDeclarations as spec;
-ghost use Rattle.rw_patterns.specs.Given.{Gives};
+ghost use Rattle.rw_parser_grammar.specs.ReadClauses as clauses;
+ghost use Rattle.rw_parser_grammar.specs.ReadDeclarations as spec;
+ghost use Rattle.rw_parser_patterns.specs.Given.{Gives};
 ghost use Rattle.rw_parser.specs.Clauses.{ReadsClauses};
 ghost use Rattle.rw_parser.specs.Kept as keep;
 
 use rw_base::{Name, Span};
-use rw_chains::MAX_LEVELS;
-use rw_grammar::{Item, Lexeme, Mark};
-use rw_items::{data_type, fixity_declaration, import_declaration, newtype, type_signature};
-use rw_patterns::{Unread, rest_of, same_mark, sees};
+use rw_parser_chains::MAX_LEVELS;
+use rw_parser_grammar::{Item, Lexeme, Mark};
+use rw_parser_items::{data_type, fixity_declaration, import_declaration, newtype, type_signature};
+use rw_parser_patterns::{Unread, rest_of, same_mark, sees};
 use rw_tree::{Alt, Decl};
 use std::alloc::Global;
 
@@ -29,7 +29,7 @@ fn goes_signed(tokens: &[Lexeme]) -> bool
 }
 
 // Operator `)` (`,` | `::`)
-#[tactic(auto, unfolding(rw_grammar::specs::ReadClauses::operator_closed_at, rw_grammar::specs::Read::after))]
+#[tactic(auto, unfolding(rw_parser_grammar::specs::ReadClauses::operator_closed_at, rw_parser_grammar::specs::Read::after))]
 fn closes_signed(tokens: &[Lexeme]) -> bool
     ensures { result ≡ spec.goes_signed (clauses.operator_closed_at tokens.now) }
 {

@@ -2,19 +2,19 @@
 ghost use Rattle.std.specs.Prelude.{◌≡◌, ◌+◌, ◌<◌, ◌≤◌, ℕ, List, ◌∷◌, length, take, drop, Some};
 ghost use Rattle.rw_base.specs.declared.fail.Fail.TheVariants as fail;
 ghost use Rattle.rw_base.specs.declared.rule.Rule.TheVariants as rule;
-ghost use Rattle.rw_grammar.specs.declared.lexeme.Lexeme.{Lexeme};
-ghost use Rattle.rw_grammar.specs.Grammar.{whole_run};
-ghost use Rattle.rw_grammar.specs.ReadProgram as spec;
-ghost use Rattle.rw_patterns.specs.Given.{Gives};
-ghost use Rattle.rw_runs.specs.Shallow.{kept_behind, nothing};
+ghost use Rattle.rw_parser_grammar.specs.declared.lexeme.Lexeme.{Lexeme};
+ghost use Rattle.rw_parser_grammar.specs.Grammar.{whole_run};
+ghost use Rattle.rw_parser_grammar.specs.ReadProgram as spec;
+ghost use Rattle.rw_parser_patterns.specs.Given.{Gives};
+ghost use Rattle.rw_parser.specs.Shallow.{kept_behind, nothing};
 ghost use Rattle.rw_parser.specs.Clauses.{ReadsClauses};
 ghost use Rattle.rw_parser.specs.Reading.{Answers, AnswersRun, run_kept};
 
 use crate::item::read_item;
+use crate::{Kept, run_length, tokens_from, with_kept};
 use rw_base::{Fail, Name, Place, Refusal, Rule, Span};
-use rw_grammar::{Item, Lexeme, Mark, Spot};
-use rw_patterns::{Unread, next_spot, same_mark};
-use rw_runs::{Kept, run_length, tokens_from, with_kept};
+use rw_parser_grammar::{Item, Lexeme, Mark, Spot};
+use rw_parser_patterns::{Unread, next_spot, same_mark};
 use rw_tree::Alt;
 use sqlite_items::Items;
 use std::alloc::Global;

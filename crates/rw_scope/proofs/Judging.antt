@@ -6,9 +6,9 @@ use Rattle.rw_base.specs.declared.rule.Rule.{Rule}
 use Rattle.rw_base.specs.declared.rule.Rule.TheVariants.{E06, E07, E08, E09}
 use Rattle.rw_base.specs.declared.fail.Refusal.{Refusal}
 use Rattle.rw_tree.specs.Declarations.{PlainProgram}
-use Rattle.rw_scoping.specs.Names.{earliest}
-use Rattle.rw_scoping.specs.Scope.{unknown_modules, declared_twice, unbound, unpaired}
-use Rattle.rw_scoping.specs.Verdict.{broken_first, first_broken}
+use Rattle.rw_scope_rules.specs.Names.{earliest}
+use Rattle.rw_scope_rules.specs.Scope.{unknown_modules, declared_twice, unbound, unpaired}
+use Rattle.rw_scope_rules.specs.Verdict.{broken_first, first_broken}
 use Rattle.rw_scope.specs.Rules.{broken_names, broken_types}
 
 -- four rules that aren't broken leave what comes after them

@@ -4,11 +4,11 @@ use Rattle.rw_base.specs.declared.place.Span.{Span}
 use Rattle.rw_base.specs.declared.rule.Rule.TheVariants.{E06, E07, E08, E09, E10, E11, E12}
 use Rattle.rw_base.specs.declared.fail.Refusal.{Refusal}
 use Rattle.rw_tree.specs.Declarations.{PlainProgram}
-use Rattle.rw_scoping.specs.Names.{earliest}
-use Rattle.rw_scoping.specs.Scope.{unknown_modules, declared_twice, unbound, unpaired}
-use Rattle.rw_scoping.specs.Kinds.{misused, recursive_or_empty}
-use Rattle.rw_scoping.specs.Groups.{cyclic}
-use Rattle.rw_scoping.specs.Verdict.{broken_first}
+use Rattle.rw_scope_rules.specs.Names.{earliest}
+use Rattle.rw_scope_rules.specs.Scope.{unknown_modules, declared_twice, unbound, unpaired}
+use Rattle.rw_scope_rules.specs.Kinds.{misused, recursive_or_empty}
+use Rattle.rw_scope_rules.specs.Groups.{cyclic}
+use Rattle.rw_scope_rules.specs.Verdict.{broken_first}
 
 -- the first of E06 to E09, or what comes after
 abbrev pub broken_names : PlainProgram Span → Option Refusal → Option Refusal

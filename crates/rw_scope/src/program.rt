@@ -1,18 +1,18 @@
 // Scoping: the rules in the order of their codes, and the bound tree.
 ghost use Rattle.std.specs.Prelude.{◌≡◌, None, IfOk};
 ghost use Rattle.rw_tree.specs.Declarations.{plain_program};
-ghost use Rattle.rw_scoping.specs.Bindings.{bound_program};
-ghost use Rattle.rw_scoping.specs.Verdict.{IsScoped, first_broken};
+ghost use Rattle.rw_scope_rules.specs.Bindings.{bound_program};
+ghost use Rattle.rw_scope_rules.specs.Verdict.{IsScoped, first_broken};
 ghost use Rattle.rw_scope.specs.Judged.{IsJudged};
 ghost use Rattle.rw_scope.specs.Rules.{broken_names, broken_types};
 
 use crate::refuse::refuse;
 use rw_base::{Fail, Rule, Span};
-use rw_binding::bind;
-use rw_groups::cyclic;
-use rw_kinds::{misused, recursive_or_empty};
-use rw_names::{declared_twice, unbound, unknown_modules, unpaired};
-use rw_scoping::{Bound, Scoped, verdict_law};
+use rw_scope_binding::bind;
+use rw_scope_groups::cyclic;
+use rw_scope_kinds::{misused, recursive_or_empty};
+use rw_scope_names::{declared_twice, unbound, unknown_modules, unpaired};
+use rw_scope_rules::{Bound, Scoped, verdict_law};
 use rw_tree::Program;
 use std::alloc::Global;
 

@@ -1,11 +1,11 @@
 // A rule that is broken at some places is refused at the first of them.
 ghost use Rattle.std.specs.Prelude.{None};
-ghost use Rattle.rw_scoping.specs.Names.{earliest as first_of};
-ghost use Rattle.rw_scoping.specs.Verdict.{broken_first};
+ghost use Rattle.rw_scope_rules.specs.Names.{earliest as first_of};
+ghost use Rattle.rw_scope_rules.specs.Verdict.{broken_first};
 ghost use Rattle.rw_scope.specs.Judged.{IsJudged};
 
 use rw_base::{Fail, Place, Refusal, Rule};
-use rw_names::earliest;
+use rw_scope_names::earliest;
 
 // Refuses by this rule at the place that comes first in the source, if there is one.
 pub fn refuse(rule: Rule, places: &[Place]) -> Result<(), Fail>

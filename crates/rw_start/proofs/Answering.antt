@@ -5,7 +5,7 @@ use Rattle.rw_base.specs.declared.rule.Rule.{Rule}
 use Rattle.rw_base.specs.declared.fail.Fail.{Fail}
 use Rattle.rw_base.specs.declared.fail.Fail.TheVariants as fail
 use Rattle.rw_base.specs.declared.fail.Refusal.{Refusal}
-use Rattle.rw_scoping.specs.Verdict.{broken_first}
+use Rattle.rw_scope_rules.specs.Verdict.{broken_first}
 use Rattle.rw_start.specs.Judged.{IsJudged}
 
 pub on_ok : {A E : Type 0} {P Q : A → Type 0} (r : Result A E) → ((x : A) → P x → Q x) → IfOk r P → IfOk r Q

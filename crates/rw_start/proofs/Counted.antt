@@ -5,15 +5,15 @@ use Rattle.rw_base.specs.declared.rule.Rule.{Rule}
 use Rattle.rw_base.specs.declared.rule.Rule.TheVariants.{E15, E16}
 use Rattle.rw_base.specs.declared.fail.Fail.{Fail}
 use Rattle.rw_base.specs.declared.fail.Refusal.{Refusal}
-use Rattle.rw_scoping.specs.declared.binding.Operation.TheVariants.{Return, Bind, Then, Get, Put, Lift, Signal, Extrude, Par, Refold}
-use Rattle.rw_scoping.specs.declared.binding.Binding.{Binding}
-use Rattle.rw_scoping.specs.declared.binding.Binding.TheVariants.{Declared, Operation as Operates, Constructor as Constructs, Local}
-use Rattle.rw_scoping.specs.declared.binding.Bound.{Bound}
+use Rattle.rw_scope_rules.specs.declared.binding.Operation.TheVariants.{Return, Bind, Then, Get, Put, Lift, Signal, Extrude, Par, Refold}
+use Rattle.rw_scope_rules.specs.declared.binding.Binding.{Binding}
+use Rattle.rw_scope_rules.specs.declared.binding.Binding.TheVariants.{Declared, Operation as Operates, Constructor as Constructs, Local}
+use Rattle.rw_scope_rules.specs.declared.binding.Bound.{Bound}
 use Rattle.rw_tree.specs.Trees.{Expression, variable, constructor, application, tuple, chain, lambda, let_in, if_then_else, case_of, do_block, Expressions, no_expressions, more_expressions}
 use Rattle.rw_tree.specs.Declarations.{PlainProgram}
-use Rattle.rw_scoping.specs.Names.{at_if, earliest}
-use Rattle.rw_scoping.specs.Nodes.{Node, expression_nodes, expressions_nodes}
-use Rattle.rw_scoping.specs.Verdict.{broken_first}
+use Rattle.rw_scope_rules.specs.Names.{at_if, earliest}
+use Rattle.rw_scope_rules.specs.Nodes.{Node, expression_nodes, expressions_nodes}
+use Rattle.rw_scope_rules.specs.Verdict.{broken_first}
 use Rattle.rw_meaning.specs.Systems.{System, leaf, operated, system_with, with_systems, system_of}
 use Rattle.rw_start.specs.Positions.{inner_nodes, is_stray, misplaced, strays}
 use Rattle.rw_start.specs.Start.{improper_start}

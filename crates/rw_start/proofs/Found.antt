@@ -2,7 +2,7 @@
 use Rattle.std.proofs.Common.{◌≡◌, ◌∙◌, ℕ, refl, sym, ap, Option, List, [], ◌∷◌, ◌++◌, append_assoc, map, flat_map}
 use Rattle.std.proofs.lemmas.Grind.{flat_map-append}
 use Rattle.rw_base.specs.declared.place.Place.{Place}
-use Rattle.rw_scoping.specs.declared.binding.Bound.{Bound}
+use Rattle.rw_scope_rules.specs.declared.binding.Bound.{Bound}
 use Rattle.rw_tree.specs.declared.pattern.Pat.{Pat}
 use Rattle.rw_tree.specs.declared.expr.Expr.{Expr}
 use Rattle.rw_tree.specs.declared.expr.Expr.TheVariants as expr
@@ -17,7 +17,7 @@ use Rattle.rw_tree.specs.declared.clause.Stmt.TheVariants as stmt
 use Rattle.rw_tree.specs.Patterns.{Pattern, wildcard, variable_pattern, constructor_pattern, tuple_pattern, Patterns, no_patterns, more_patterns, pattern, patterns}
 use Rattle.rw_tree.specs.Trees.{Expression, expression, alternative_of, right_side, guarded, local_binding, statement, LocalBindings, expression_parts, alternative_parts, body_parts, binding_parts, statement_parts}
 use Rattle.rw_tree.proofs.Plains as plain
-use Rattle.rw_scoping.specs.Nodes.{Node, group_node, pattern_nodes, parts_nodes, row_nodes, expression_nodes, expressions_nodes, clause_nodes, clauses_nodes, body_nodes, bodies_nodes, binding_nodes, group_nodes, side_nodes, statement_nodes, statements_nodes}
+use Rattle.rw_scope_rules.specs.Nodes.{Node, group_node, pattern_nodes, parts_nodes, row_nodes, expression_nodes, expressions_nodes, clause_nodes, clauses_nodes, body_nodes, bodies_nodes, binding_nodes, group_nodes, side_nodes, statement_nodes, statements_nodes}
 use Rattle.rw_start.specs.Positions.{stray_in_node, strays}
 use Rattle.rw_start.proofs.Lists.{expressions_as, clauses_as, bodies_as, group_as, statements_as}
 

@@ -1,7 +1,7 @@
 -- The nodes of the parts of a tree are those of a list of trees, one after the other.
 use Rattle.std.proofs.Common.{◌≡◌, refl, ap, List, [], ◌∷◌, ◌++◌, flat_map}
 use Rattle.rw_tree.specs.Trees.{Expression, Alternative, GuardedBody, LocalBinding, Statement, expression_parts, alternative_parts, body_parts, binding_parts, statement_parts}
-use Rattle.rw_scoping.specs.Nodes.{expression_nodes, expressions_nodes, clause_nodes, clauses_nodes, body_nodes, bodies_nodes, binding_nodes, group_nodes, statement_nodes, statements_nodes}
+use Rattle.rw_scope_rules.specs.Nodes.{expression_nodes, expressions_nodes, clause_nodes, clauses_nodes, body_nodes, bodies_nodes, binding_nodes, group_nodes, statement_nodes, statements_nodes}
 
 module _ {X : Type 0} where
   pub expressions_as : (es : List (Expression X)) → expressions_nodes (expression_parts es) ≡ flat_map expression_nodes es

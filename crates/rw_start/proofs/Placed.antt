@@ -3,14 +3,14 @@ use Rattle.std.proofs.Common.{◌≡◌, ◌∙◌, ℕ, suc, ◌+◌, ◌-◌, 
 use Rattle.std.proofs.lemmas.Grind.{flat_map-append}
 use Rattle.std.proofs.lemmas.List.{take-map, drop-map, take_rest}
 use Rattle.rw_base.specs.declared.place.Place.{Place}
-use Rattle.rw_scoping.specs.declared.binding.Bound.{Bound}
+use Rattle.rw_scope_rules.specs.declared.binding.Bound.{Bound}
 use Rattle.rw_tree.specs.declared.decl.Decl.{Decl}
 use Rattle.rw_tree.specs.declared.clause.Local.{Local}
 use Rattle.rw_tree.specs.Trees.{LocalBindings, local_binding, binding_parts}
 use Rattle.rw_tree.specs.Declarations.{Declaration, declaration, import_declaration, data_declaration, fixity_declaration, signature_declaration, function_declaration}
-use Rattle.rw_scoping.specs.Names.{is_among}
+use Rattle.rw_scope_rules.specs.Names.{is_among}
 use Rattle.rw_start.specs.Start.{Start, start_from}
-use Rattle.rw_scoping.specs.Nodes.{Node, binding_nodes, group_nodes, declaration_nodes}
+use Rattle.rw_scope_rules.specs.Nodes.{Node, binding_nodes, group_nodes, declaration_nodes}
 use Rattle.rw_meaning.specs.Systems.{System, Body, system_of, body_of, start_of}
 use Rattle.rw_systems.specs.Shown.{right_side_of, map_some}
 use Rattle.rw_start.specs.Seen.{wheres_in}

@@ -1,8 +1,8 @@
 -- The type of a whole device as it is written: `ReT i o I ()` with closed data i and o (Haskell 2010 Report, section 4.1.2).
 use Rattle.std.specs.Prelude.{List, [], ◌∷◌, ◌++◌, Bool, true, false, not, ◌&&◌, codes}
 use Rattle.rw_tree.specs.Types.{WrittenType, variable_type, constructor_type, applied_type, function_type, tuple_type, WrittenTypes, no_types, more_types}
-use Rattle.rw_scoping.specs.Names.{Bytes, same_name, is_among}
-use Rattle.rw_scoping.specs.Scope.{monad_names}
+use Rattle.rw_scope_rules.specs.Names.{Bytes, same_name, is_among}
+use Rattle.rw_scope_rules.specs.Scope.{monad_names}
 
 -- Parentheses round a type are nothing: `(ReT i o I) ()` is what `ReT i o I ()` is.
 

@@ -2,14 +2,14 @@
 -- body is one, and a system has at most 64 devices. After names are bound each of the three is known by what it is bound to.
 use Rattle.std.specs.Prelude.{ℕ, suc, List, [], ◌∷◌, ◌++◌, map, flat_map, take, drop, Bool, true, false, nat_eq, Option, Some, None}
 use Rattle.rw_base.specs.declared.place.Place.{Place}
-use Rattle.rw_scoping.specs.declared.binding.Operation.TheVariants.{Par, Refold}
-use Rattle.rw_scoping.specs.declared.binding.Binding.{Binding}
-use Rattle.rw_scoping.specs.declared.binding.Binding.TheVariants.{Declared, Operation as Operates}
-use Rattle.rw_scoping.specs.declared.binding.Bound.{Bound}
+use Rattle.rw_scope_rules.specs.declared.binding.Operation.TheVariants.{Par, Refold}
+use Rattle.rw_scope_rules.specs.declared.binding.Binding.{Binding}
+use Rattle.rw_scope_rules.specs.declared.binding.Binding.TheVariants.{Declared, Operation as Operates}
+use Rattle.rw_scope_rules.specs.declared.binding.Bound.{Bound}
 use Rattle.rw_tree.specs.Trees.{Expression, variable, constructor, application, tuple, chain, lambda, let_in, if_then_else, case_of, do_block, LocalBindings}
 use Rattle.rw_tree.specs.Declarations.{Declaration, PlainProgram}
-use Rattle.rw_scoping.specs.Names.{at_if}
-use Rattle.rw_scoping.specs.Nodes.{Node, expression_node, expression_nodes, group_nodes, declaration_nodes}
+use Rattle.rw_scope_rules.specs.Names.{at_if}
+use Rattle.rw_scope_rules.specs.Nodes.{Node, expression_node, expression_nodes, group_nodes, declaration_nodes}
 use Rattle.rw_meaning.specs.Systems.{System, leaf, side_by_side, fed_back, system_of, Body, body_of}
 use Rattle.rw_start.specs.Start.{Start, start_from}
 

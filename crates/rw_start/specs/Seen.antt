@@ -1,7 +1,7 @@
 -- Types, the declaration of `start` and its body without where they lie in memory.
 use denote.Ref.{Bor}
 use Rattle.std.specs.Prelude.{List, map, Option, Some, None}
-use Rattle.rw_scoping.specs.declared.binding.Bound.{Bound}
+use Rattle.rw_scope_rules.specs.declared.binding.Bound.{Bound}
 use Rattle.rw_tree.specs.declared.types.Written.{Written}
 use Rattle.rw_tree.specs.Types.{WrittenType, written}
 use Rattle.rw_tree.specs.Trees.{alternative_of, LocalBindings}

@@ -5,8 +5,8 @@ use Rattle.rw_base.specs.declared.place.Place.{Place}
 use Rattle.rw_tree.specs.Types.{WrittenType}
 use Rattle.rw_tree.specs.Trees.{Alternative}
 use Rattle.rw_tree.specs.Declarations.{Declaration, signature_declaration, function_declaration, PlainProgram}
-use Rattle.rw_scoping.specs.declared.binding.Bound.{Bound}
-use Rattle.rw_scoping.specs.Names.{is_among, at_if}
+use Rattle.rw_scope_rules.specs.declared.binding.Bound.{Bound}
+use Rattle.rw_scope_rules.specs.Names.{is_among, at_if}
 use Rattle.rw_meaning.specs.Systems.{Body, body_of}
 use Rattle.rw_start.specs.Device.{is_device}
 

@@ -1,9 +1,9 @@
 // Laws of the definitions: each is the contract of a function that does nothing.
 ghost use Rattle.std.specs.Prelude.{◌≡◌, ◌+◌, ℕ, None, Option, length};
-ghost use Rattle.rw_scoping.specs.declared.binding.Bound.{Bound};
+ghost use Rattle.rw_scope_rules.specs.declared.binding.Bound.{Bound};
 ghost use Rattle.rw_tree.specs.Trees.{Expression};
 ghost use Rattle.rw_tree.specs.Declarations.{PlainProgram};
-ghost use Rattle.rw_scoping.specs.Nodes.{expression_nodes};
+ghost use Rattle.rw_scope_rules.specs.Nodes.{expression_nodes};
 ghost use Rattle.rw_meaning.specs.Systems.{system_of};
 ghost use Rattle.rw_start.specs.Positions.{inner_nodes, strays};
 ghost use Rattle.rw_start.specs.Judged.{IsStarted, applications, first_broken_of_two};

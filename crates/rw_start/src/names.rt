@@ -3,12 +3,12 @@
 ghost use Rattle.std.specs.Prelude.{◌≡◌, ◌++◌, OnOk, map, flat_map};
 ghost use Rattle.rw_tree.specs.Trees.{alternative_of, expression, guarded, local_binding, right_side, statement};
 ghost use Rattle.rw_tree.specs.Declarations.{declaration};
-ghost use Rattle.rw_scoping.specs.Nodes.{binding_nodes, body_nodes, clause_nodes, declaration_nodes, expression_nodes, side_nodes, statement_nodes};
-ghost use Rattle.rw_scoping.specs.Names.{at_if};
+ghost use Rattle.rw_scope_rules.specs.Nodes.{binding_nodes, body_nodes, clause_nodes, declaration_nodes, expression_nodes, side_nodes, statement_nodes};
+ghost use Rattle.rw_scope_rules.specs.Names.{at_if};
 ghost use Rattle.rw_start.specs.Positions.{is_stray as is_stray_name, strays};
 
 use rw_base::{OutOfMemory, Place};
-use rw_scoping::{Binding, Bound, Operation};
+use rw_scope_rules::{Binding, Bound, Operation};
 use rw_tree::{Alt, Decl, Expr, Guard, Local, Rhs, Stmt};
 use sqlite_items::Boxed;
 

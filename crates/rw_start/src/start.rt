@@ -3,13 +3,13 @@ ghost use Rattle.std.specs.Prelude.{◌≡◌, ◌<◌, ◌∷◌, [], Some, Non
 ghost use Rattle.rw_tree.specs.Types.{written};
 ghost use Rattle.rw_tree.specs.Trees.{alternative_of, binding_parts, local_binding};
 ghost use Rattle.rw_tree.specs.Declarations.{declaration};
-ghost use Rattle.rw_scoping.specs.Names.{is_among};
+ghost use Rattle.rw_scope_rules.specs.Names.{is_among};
 ghost use Rattle.rw_meaning.specs.Systems.{body_of};
 ghost use Rattle.rw_start.specs.Start.{start_from, type_of_start as declared_type};
 ghost use Rattle.rw_start.specs.Seen.{plain_start, wheres_in};
 
 use rw_base::{Name, Place};
-use rw_scoping::Bound;
+use rw_scope_rules::Bound;
 use rw_tree::{Alt, Decl, Local, Rhs, Written};
 
 // What declares `start`: the number of its declaration, the place of its first clause, and its clauses.

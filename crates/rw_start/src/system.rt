@@ -7,7 +7,7 @@ ghost use Rattle.rw_start.specs.Positions.{leaves, inner_nodes, barred as barred
 
 use crate::names::in_expression;
 use rw_base::{OutOfMemory, Place};
-use rw_scoping::Bound;
+use rw_scope_rules::Bound;
 use rw_systems::Parts;
 use rw_tree::Expr;
 

@@ -1,6 +1,6 @@
 -- The right side of a body: of one clause without patterns and guards.
 use Rattle.std.proofs.Common.{◌≡◌, List, [], ◌∷◌, Some, None, refl}
-use Rattle.rw_scoping.specs.declared.binding.Bound.{Bound}
+use Rattle.rw_scope_rules.specs.declared.binding.Bound.{Bound}
 use Rattle.rw_tree.specs.Patterns.{Pattern}
 use Rattle.rw_tree.specs.Trees.{Expression, alternative, RightSide, plain_side, guarded_side, GuardedBodies, LocalBindings}
 use Rattle.rw_meaning.specs.Systems.{body_of}

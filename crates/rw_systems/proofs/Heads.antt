@@ -1,9 +1,9 @@
 -- What is no application of `par` or `refold` is a leaf, and arguments are put before others.
 use Rattle.std.proofs.Common.{◌≡◌, false, List, [], ◌∷◌, ◌++◌, Option, Some, None, refl, ap, sym, ◌∙◌, Bor}
-use Rattle.rw_scoping.specs.declared.binding.Operation.TheVariants.{Return, Bind, Then, Get, Put, Lift, Signal, Extrude, Par, Refold}
-use Rattle.rw_scoping.specs.declared.binding.Binding.{Binding}
-use Rattle.rw_scoping.specs.declared.binding.Binding.TheVariants.{Declared, Operation as Operates, Constructor as Constructs, Local}
-use Rattle.rw_scoping.specs.declared.binding.Bound.{Bound}
+use Rattle.rw_scope_rules.specs.declared.binding.Operation.TheVariants.{Return, Bind, Then, Get, Put, Lift, Signal, Extrude, Par, Refold}
+use Rattle.rw_scope_rules.specs.declared.binding.Binding.{Binding}
+use Rattle.rw_scope_rules.specs.declared.binding.Binding.TheVariants.{Declared, Operation as Operates, Constructor as Constructs, Local}
+use Rattle.rw_scope_rules.specs.declared.binding.Bound.{Bound}
 use Rattle.rw_tree.specs.Trees.{Expression, variable, constructor, application, tuple, chain, lambda, let_in, if_then_else, case_of, do_block, Expressions, no_expressions, more_expressions}
 use Rattle.rw_meaning.specs.Systems.{System, leaf, operated, system_with, with_systems}
 use Rattle.rw_tree.specs.declared.expr.Expr.{Expr}

@@ -1,9 +1,9 @@
 -- Whether an application is one of `par` or `refold`.
 use Rattle.std.specs.Prelude.{Bool, true, false, Option, Some}
-use Rattle.rw_scoping.specs.declared.binding.Operation.TheVariants.{Par, Refold}
-use Rattle.rw_scoping.specs.declared.binding.Binding.{Binding}
-use Rattle.rw_scoping.specs.declared.binding.Binding.TheVariants.{Operation as Operates}
-use Rattle.rw_scoping.specs.declared.binding.Bound.{Bound}
+use Rattle.rw_scope_rules.specs.declared.binding.Operation.TheVariants.{Par, Refold}
+use Rattle.rw_scope_rules.specs.declared.binding.Binding.{Binding}
+use Rattle.rw_scope_rules.specs.declared.binding.Binding.TheVariants.{Operation as Operates}
+use Rattle.rw_scope_rules.specs.declared.binding.Bound.{Bound}
 use Rattle.rw_tree.specs.Trees.{Expression, variable, application}
 
 abbrev pub joins : Option Binding → Bool

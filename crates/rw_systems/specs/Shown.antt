@@ -1,6 +1,6 @@
 -- The parts of a system as the system that they are.
 use Rattle.std.specs.Prelude.{Option, Some, None}
-use Rattle.rw_scoping.specs.declared.binding.Bound.{Bound}
+use Rattle.rw_scope_rules.specs.declared.binding.Bound.{Bound}
 use Rattle.rw_tree.specs.declared.expr.Expr.{Expr}
 use Rattle.rw_tree.specs.Trees.{Expression, expression}
 use Rattle.rw_meaning.specs.Systems.{System, leaf, side_by_side, fed_back, Body}

@@ -9,7 +9,7 @@ ghost use Rattle.rw_systems.specs.Heads.{joins, heads_system as heads_system_of}
 use crate::operated::operated;
 use crate::parts::{Argument, Parts};
 use rw_base::OutOfMemory;
-use rw_scoping::{Binding, Bound, Operation};
+use rw_scope_rules::{Binding, Bound, Operation};
 use rw_tree::{Alt, Decl, Expr, Program, Rhs};
 use sqlite_items::Items;
 use std::alloc::Global;

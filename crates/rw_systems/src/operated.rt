@@ -1,13 +1,13 @@
 // What `par` and `refold` make of their arguments.
 ghost use Rattle.std.specs.Prelude.{◌≡◌, IfOk, map, Some};
 ghost use Rattle.rw_meaning.specs.Systems.{leaf as leaf_of, operated as operated_of};
-ghost use Rattle.rw_scoping.specs.declared.binding.Binding.TheVariants.{Operation as Operates};
-ghost use Rattle.rw_scoping.specs.declared.binding.Operation.TheVariants.{Par, Refold};
+ghost use Rattle.rw_scope_rules.specs.declared.binding.Binding.TheVariants.{Operation as Operates};
+ghost use Rattle.rw_scope_rules.specs.declared.binding.Operation.TheVariants.{Par, Refold};
 ghost use Rattle.rw_systems.specs.Shown.{shown, seen, argument};
 
 use crate::parts::{Argument, Parts};
 use rw_base::OutOfMemory;
-use rw_scoping::{Binding, Bound, Operation};
+use rw_scope_rules::{Binding, Bound, Operation};
 use rw_tree::Expr;
 use sqlite_items::{Boxed, Items};
 use std::alloc::Global;

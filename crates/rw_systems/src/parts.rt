@@ -1,6 +1,6 @@
 // What a system is made of.
 
-use rw_scoping::Bound;
+use rw_scope_rules::Bound;
 use rw_tree::Expr;
 use sqlite_items::Boxed;
 

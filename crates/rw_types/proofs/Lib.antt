@@ -1,20 +1,9 @@
 -- Lemmas.
-pub mod Adding
-pub mod Renewing
-pub mod Instances
-pub mod Rows
-pub mod Names
-pub mod Kept
-pub mod Entering
-pub mod Forms
-pub mod PatternArms
-pub mod Same
-pub mod Binders
-pub mod ExprArms
-pub mod ClauseArms
-pub mod Closed
-pub mod StepArms
-pub mod Loops
-pub mod Own
+pub mod ByKind
+pub mod Closing
 pub mod Solving
-pub mod Typed
+pub mod Within
+pub mod Default
+pub mod Programs
+-- Laws of sorts, which the crates above may cite.
+pub mod Sorting

@@ -1,46 +1,65 @@
--- Solving one equation after the other.
-use Rattle.std.proofs.Common.{◌≡◌, ◌↔◌, ℕ, ◌+◌, ◌<◌, ◌≤◌, Option, List, drop, length, get_or, refl, sym, ◌∙◌, ap, subst, arith, Result, Ok, Err, IfOk}
-use Rattle.std.proofs.Math.ListN.{drop_of_length-le}
-use Rattle.rw_solving.specs.Types.{Ty, var, plain, occurs}
-use Rattle.rw_solving.specs.Tables.{Solves, Small, Narrowed, NoneWithin, Uses}
-use Rattle.rw_solving.proofs.Laws.{is_same}
-use Rattle.rw_types.specs.declared.equation.Equation.{Equation}
-use Rattle.rw_types.specs.Equations.{Holds}
-use Rattle.rw_types.proofs.Rows.{drop_next}
+-- The most general assignment is of the kinds wanted exactly where some assignment is.
+use Rattle.std.proofs.Common.{◌≡◌, ◌↔◌, ℕ, ◌<◌, Bool, true, false, IsTrue, List, map, length, sym, ◌∙◌, ap, subst, arith}
+use Rattle.std.proofs.lemmas.List.{length-map}
+use Rattle.rw_tree.specs.declared.decl.Decl.{Decl}
+use Rattle.rw_types_solving.specs.declared.term.Sort.{Sort}
+use Rattle.rw_types_solving.specs.declared.term.Term.{Term}
+use Rattle.rw_types_solving.specs.Types.{Ty, plains, apply, Agrees, meaning}
+use Rattle.rw_types_solving.specs.Sorts.{HasSort}
+use Rattle.rw_types_solving.specs.Tables.{Small}
+use Rattle.rw_types_solving.specs.Conditions.{is_state_monad}
+use Rattle.rw_types_solving.specs.Closing.{closing}
+use Rattle.rw_types_solving.proofs.StateMonads.{state_back}
+use Rattle.rw_types.proofs.Sorting.{general_sort}
+use Rattle.rw_types_rules.specs.declared.kind.VariableKind.{VariableKind}
+use Rattle.rw_types_rules.specs.Schemes.{World}
+use Rattle.rw_types_rules.specs.Typings.{kind_sort, unknown_sorts, state_unknowns}
+use Rattle.rw_types_equations.specs.declared.numbered.Numbered.{Numbered}
+use Rattle.rw_types.specs.Inferred.{type_of}
+use Rattle.rw_types.specs.Inside.{AreWithin, kind_at, slot_sorts, AreCarried, MayStand, AgreesBy, IsSolved, HasNoSolution}
+use Rattle.rw_types.proofs.ByKind.{slot_sort, may_sort, may_small, may_stack}
+use Rattle.rw_types.proofs.Closing.{closed_all}
 
--- the solutions of the table, of which the rest holds, are the assignments under which all hold
-pub record Solved (table : List (Option Ty)) (all rest : List Equation) : Type 0 where
-  pub exactly : (t : ℕ → Ty) → (Solves t table × Holds t rest) ↔ Holds t all
+module _ (slots own : List VariableKind) where
+  -- an assignment of these kinds gives each number a type of its sort
+  stands_sorted : (v : ℕ → Sort) (y : ℕ → Bool) (t : ℕ → Ty) → MayStand v y own slots t → (x : ℕ) → x < length slots → HasSort v (unknown_sorts own) (slot_sorts slots x) (t x)
+  stands_sorted v y t may x l = subst (λ (k : Sort). HasSort v (unknown_sorts own) k (t x)) (sym (slot_sort slots x)) (may_sort v y own (kind_at slots x) (t x) (may x l))
 
-pub solved_start : (table : List (Option Ty)) (all : List Equation) → ((t : ℕ → Ty) → Solves t table) → Solved table all all
-solved_start table all f = record { exactly = λ t. ((λ h. h.1), (λ h. (f t, h))) }
+  -- so what it is an instance of is of these kinds
+  pub instance_carried : (v : ℕ → Sort) (y : ℕ → Bool) (t : ℕ → Ty) (types : List Term) → Agrees t (meaning types) → length types ≡ length slots → AreWithin (length slots) types
+      → MayStand v y own slots t → AreCarried slots own (meaning types)
+  instance_carried v y t types a n within may = record {
+    sorted = λ x l. general_sort v (unknown_sorts own) (slot_sorts slots) t (slot_sorts slots x) (meaning types x)
+        (subst (HasSort v (unknown_sorts own) (slot_sorts slots x)) (a x) (stands_sorted v y t may x l))
+        (λ z o. stands_sorted v y t may z (within x (omega arith) z o));
+    stacked = λ x l e. state_back y (state_unknowns own) t (meaning types x) (subst (λ (u : Ty). is_state_monad y (state_unknowns own) u ≡ true) (a x) (may_stack v y own (kind_at slots x) (t x) (may x l) e));
+  }
 
-pub solved_step : (old new : List (Option Ty)) (all : List Equation) (i : ℕ) (e : Equation) → Solved old all (drop i all) → Narrowed old new (var e.variable) (plain e.is) → i < length all → e ≡ get_or all i e
-    → Solved new all (drop (i + 1) all)
-solved_step old new all i e s n l r =
-    let q = drop_next all i (i + 1) e l refl r in record {
-      exactly = λ t. (
-        (λ h. let k = (n t).0 h.0 in (s.exactly t).0 (k.0, subst (λ z. Holds t z) (sym q) (k.1, h.1))),
-        (λ h. let k = (s.exactly t).1 h in let g = subst (λ z. Holds t z) q k.1 in ((n t).1 (k.0, g.0), g.1)),
-      );
-    }
+module _ (world : World) (tree : Decl Numbered) (slots own : List VariableKind) where
+  pub none_small : ((t : ℕ → Ty) → AgreesBy world tree t → Small (length slots) t → ⊥) → HasNoSolution world tree slots own
+  none_small f v y t a may = f t a (λ x l. may_small v y own (kind_at slots x) (t x) (may x l))
 
-pub solved_done : (table : List (Option Ty)) (all : List Equation) (i : ℕ) → Solved table all (drop i all) → length all ≤ i → (t : ℕ → Ty) → Solves t table ↔ Holds t all
-solved_done table all i s l t =
-    let q = drop_of_length-le all {i = i} l in
-    ((λ h. (s.exactly t).0 (h, subst (λ z. Holds t z) (sym q) tt)), (λ h. ((s.exactly t).1 h).0))
+  pub none_carried : (types : List Term) → ((t : ℕ → Ty) → AgreesBy world tree t → Agrees t (meaning types)) → length types ≡ length slots → AreWithin (length slots) types
+      → (AreCarried slots own (meaning types) → ⊥) → HasNoSolution world tree slots own
+  none_carried types general n within f v y t a may = f (instance_carried slots own v y t types (general t a) n within may)
 
-pub solved_refused : (old : List (Option Ty)) (all : List Equation) (i m n : ℕ) (e : Equation) → Solved old all (drop i all) → i < length all → e ≡ get_or all i e → m ≡ n
-    → e.variable < m → NoneWithin old (var e.variable) (plain e.is) → (t : ℕ → Ty) → Holds t all → Small n t → ⊥
-solved_refused old all i m n e s l r same lt none t h small =
-    let k = (s.exactly t).1 h in
-    let g = subst (λ z. Holds t z) (drop_next all i (i + 1) e l refl r) k.1 in
-    none t k.0 g.0 (small e.variable (subst (λ z. e.variable < z) same lt))
+  pub is_solved : (types made seen : List Term) (sorts ss : List Sort) → length types ≡ length slots → AgreesBy world tree (meaning types) → ((t : ℕ → Ty) → AgreesBy world tree t → Agrees t (meaning types))
+      → Small (length slots) (meaning types) → AreWithin (length slots) types → AreCarried slots own (meaning types) → seen ≡ types → sorts ≡ map kind_sort slots → ss ≡ sorts
+      → plains made ≡ map (apply (closing ss)) (plains seen) → IsSolved world tree slots own (type_of made)
+  is_solved types made seen sorts ss n agrees general small within carried e f g closed = record {
+    general = meaning types;
+    agrees = agrees;
+    most_general = general;
+    small = small;
+    carried = carried;
+    closed = closed_all (map kind_sort slots) types made (length-map slots kind_sort ∙ sym n) (subst (λ (m : ℕ). AreWithin m types) (sym n) within)
+        (closed ∙ ap (λ (ts : List Term). map (apply (closing ss)) (plains ts)) e ∙ ap (λ (zs : List Sort). map (apply (closing zs)) (plains types)) (g ∙ f));
+  }
 
--- the left side as the code has it
-pub uses_plain : (n x : ℕ) (u : Ty) → u ≡ var x → x < n → Uses n u
-uses_plain n x u e l y o = let same = is_same y x (ap (occurs y) (sym e) ∙ o) in omega arith
+-- what the test says
+pub are_carried : (slots own : List VariableKind) (types seen : List Term) (r : Bool) → seen ≡ types → r ≡ true → (IsTrue r ↔ AreCarried slots own (meaning seen)) → AreCarried slots own (meaning types)
+are_carried slots own types seen r e f k = subst (λ (ts : List Term). AreCarried slots own (meaning ts)) e (k.0 f)
 
-pub ok_narrowed : {E : Type 0} (r : Result (Unit {0}) E) (old new : List (Option Ty)) (x : ℕ) (u a : Ty) → u ≡ var x → IfOk r (λ _. Narrowed old new u a) → IfOk r (λ _. Narrowed old new (var x) a)
-ok_narrowed (Ok y) old new x u a e h = subst (λ z. Narrowed old new z a) e h
-ok_narrowed (Err y) old new x u a e h = tt
+pub not_carried : (slots own : List VariableKind) (types seen : List Term) (r : Bool) → seen ≡ types → r ≡ false → (IsTrue r ↔ AreCarried slots own (meaning seen)) → AreCarried slots own (meaning types) → ⊥
+not_carried slots own types seen r e f k h =
+    let g : r ≡ true = k.1 (subst (λ (ts : List Term). AreCarried slots own (meaning ts)) (sym e) h) in let same : false ≡ true = sym f ∙ g in absurd (cc)

@@ -1,4 +1,6 @@
--- What public contracts rest on: numbered trees, equations, and schemes as the code has them.
-pub mod Numbered
-pub mod Equations
-pub mod Seen
+-- What public contracts rest on.
+pub mod Inferred
+-- What functions inside promise each other.
+pub mod Inside
+-- What functions inside promise each other.
+pub mod Testing

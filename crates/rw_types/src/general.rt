@@ -1,38 +1,53 @@
-// The most general typing of a declaration.
-ghost use Rattle.std.specs.Prelude.{◌≡◌, ℕ, IfOk, Err, length};
-ghost use Rattle.rw_solving.specs.Types.{Ty, Agrees, meaning};
-ghost use Rattle.rw_solving.specs.Tables.{Small};
+// The most general types of the numbers of a declaration.
+ghost use Rattle.std.specs.Prelude.{◌≡◌, ℕ, IfOk, IsTrue, Err, length};
+ghost use Rattle.rw_types_solving.specs.Types.{Ty, Agrees, meaning};
+ghost use Rattle.rw_types_solving.specs.Tables.{Small};
 ghost use Rattle.rw_tree.specs.Declarations.{declaration};
-ghost use Rattle.rw_typing.specs.WellTyped.{DeclarationAgrees};
-ghost use Rattle.rw_types.specs.Numbered.{typed_by};
-ghost use Rattle.rw_types.specs.Seen.{seen_world};
+ghost use Rattle.rw_types_rules.specs.WellTyped.{DeclarationAgrees};
+ghost use Rattle.rw_types_equations.specs.Numbered.{typed_by};
+ghost use Rattle.rw_types_equations.specs.Seen.{seen_world};
+ghost use Rattle.rw_types.specs.Inside.{AreWithin};
 
-use crate::declaration::add_declaration;
-use crate::solve::solve_equations;
-use crate::{Equation, Numbered, World};
-use rw_solving::{Failure, Term};
 use rw_tree::Decl;
+use rw_types_equations::{Numbered, World, most_general_types};
+use rw_types_solving::{Failure, Term, top};
 use sqlite_items::Items;
 use std::alloc::Global;
 
-/// The types of the numbers of a declaration, so many of them, in the most general way: the types of the declaration agree, and
-/// every assignment under which they do is an instance of this one. Refused only where they agree under no assignment of
-/// types of at most 1,024 nodes. A number that is none of them counts as want of memory.
-pub fn most_general_types(
+// Whether each variable of the types is one of so many.
+fn are_within(types: &[Term], numbers: u32) -> bool
+    ensures { IsTrue result → AreWithin numbers types.now }
+{
+    for term in types {
+        if top(term) > numbers as u64 {
+            return false;
+        }
+    }
+    true
+}
+
+// The most general types of so many numbers. Numbers have 32 bits: more are want of memory, and so is a variable that is
+// none of them, of which the solver makes none.
+pub fn general_types(
     alloc: Global,
     tree: &Decl<Numbered>,
     world: &World,
-    numbers: u32,
+    numbers: usize,
 ) -> Result<Items<Term>, Failure>
     ensures as_many { IfOk result (λ made. length made ≡ numbers) }
     ensures agrees { IfOk result (λ made. DeclarationAgrees (seen_world world.now) (declaration (typed_by (meaning made)) tree.now)) }
     ensures general { IfOk result (λ made. (t : ℕ → Ty) → DeclarationAgrees (seen_world world.now) (declaration (typed_by t) tree.now) → Agrees t (meaning made)) }
     ensures small { IfOk result (λ made. Small numbers (meaning made)) }
+    ensures within { IfOk result (λ made. AreWithin numbers made) }
     ensures refused { result ≡ Err Failure.Refused → (t : ℕ → Ty) → DeclarationAgrees (seen_world world.now) (declaration (typed_by t) tree.now) → Small numbers t → ⊥ }
 {
-    let mut equations: Items<Equation> = Items::new(alloc);
-    add_declaration(alloc, tree, world, &mut equations)?;
-    let table = solve_equations(alloc, equations.as_slice(), numbers)?;
-    let types = table.most_general(alloc)?;
+    if numbers > u32::MAX as usize {
+        return Err(Failure::OutOfMemory);
+    }
+    let numbers = numbers as u32;
+    let types = most_general_types(alloc, tree, world, numbers)?;
+    if !are_within(types.as_slice(), numbers) {
+        return Err(Failure::OutOfMemory);
+    }
     Ok(types)
 }

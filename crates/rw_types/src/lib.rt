@@ -1,37 +1,25 @@
-//! The equations that say that the types of a declaration agree, and their most general solution.
+//! The inference of types: the default typing of each declaration of a program, or E13 at the first that has none, exactly as
+//! `rw_types_rules` defines them.
 //!
-//! It leaves what a typing is to `rw_typing`, the solving of equations to `rw_solving`, the numbers of nodes to `rw_numbering`, and the
-//! world of a program to `rw_world`. `rw_infer` uses it. Each node of a tree has a variable, and so has each argument of an instance.
-//! Begin with `numbered.rt` and `equation.rt`, then `specs/Numbered.antt` and `specs/Equations.antt`.
+//! It leaves numbers of nodes to `rw_types_numbering`, equations and their solution to `rw_types_equations` and `rw_types_solving`, and
+//! the types of names to `rw_types_world`. Coverage and the passes of the middle stand on its answer.
+//! Begin with `declaration.rt` and `program.rt`, then `specs/Inferred.antt`; `sorted.rt` judges sorts.
 #![tactic(auto)]
 
-mod clause;
+mod carried;
 mod declaration;
-mod equation;
-mod expr;
 mod general;
-mod group;
-mod label;
-mod locals;
-mod name;
-mod numbered;
-mod operations;
-mod pattern;
-mod scheme;
-mod shape;
-mod solve;
-mod statement;
-mod step;
-mod written;
+mod kinds;
+mod laws;
+mod own;
+mod place;
+mod program;
+mod solved;
+mod sorted;
+mod typed;
 
-pub use declaration::add_declaration;
-pub use equation::Equation;
-pub use expr::add_expression;
-pub use general::most_general_types;
-pub use locals::Locals;
-pub use numbered::Numbered;
-pub use operations::operation_scheme;
-pub use pattern::{add_pattern, add_row, enter_pattern, enter_row};
-pub use scheme::{DataName, Scheme, World};
-pub use solve::solve_equations;
-pub use written::written_type;
+pub use declaration::infer_declaration;
+pub use laws::{general_sort, general_state_monad, one_sort};
+pub use program::infer;
+pub use sorted::{all_sorted, is_of_sort};
+pub use typed::TypedDecl;

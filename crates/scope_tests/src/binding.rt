@@ -1,8 +1,8 @@
 // What the names of a small function are bound to, found with ample memory.
 
 use crate::source::program_of;
-use rw_binding::bind;
-use rw_scoping::{Binding, Bound};
+use rw_scope_binding::bind;
+use rw_scope_rules::{Binding, Bound};
 use rw_tree::{Alt, Decl, Expr, Rhs};
 use std::test::Fail;
 

@@ -1,9 +1,9 @@
 // Marks of small graphs, with ample memory.
 
 use rw_base::OutOfMemory;
+use rw_scope_graph::{circular, stuck};
 use sqlite_items::Items;
 use std::alloc::Global;
-use waiting_graph::{circular, stuck};
 
 /// What one node waits for.
 fn row(alloc: Global, nodes: &[u32]) -> Result<Items<u32>, OutOfMemory> {

@@ -1,8 +1,8 @@
 // How many places small groups have, found with ample memory.
 
 use crate::source::program_of;
-use rw_binding::bind;
-use rw_groups::cyclic;
+use rw_scope_binding::bind;
+use rw_scope_groups::cyclic;
 use std::test::Fail;
 
 #[test]

@@ -1,7 +1,7 @@
 // How many places of types of a wrong kind small programs have, found with ample memory.
 
 use crate::source::program_of;
-use rw_kinds::{misused, recursive_or_empty};
+use rw_scope_kinds::{misused, recursive_or_empty};
 use std::test::Fail;
 
 #[test]

@@ -1,6 +1,6 @@
 //! The tests of scoping: nodes, bound names, the rule on each kind of name, circles of types and of functions, and the one call.
 //!
-//! It leaves the definitions to `rw_scoping` and computed programs to `scope_examples`. It stands apart so that a rule is proved once,
+//! It leaves the definitions to `rw_scope_rules` and computed programs to `source_worked`. It stands apart so that a rule is proved once,
 //! and not once more beside its tests; `typing_tests` reads its sources by it too. Begin with `source.rt` and `names.rt`.
 #![tactic(auto)]
 

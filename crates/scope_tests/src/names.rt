@@ -2,8 +2,8 @@
 
 use crate::source::program_of;
 use rw_base::Place;
-use rw_binding::bind;
-use rw_names::{
+use rw_scope_binding::bind;
+use rw_scope_names::{
     declared_twice, earliest, repeated_at_top, repeated_in_functions, unbound, unknown_modules,
     unpaired,
 };

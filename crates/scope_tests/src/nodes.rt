@@ -1,7 +1,7 @@
 // The nodes of a small program, listed with ample memory.
 
 use rw_base::{Name, OutOfMemory, Place, Span};
-use rw_nodes::{Node, nodes, nodes_of_binding, nodes_of_pattern, nodes_of_patterns};
+use rw_scope_nodes::{Node, nodes, nodes_of_binding, nodes_of_pattern, nodes_of_patterns};
 use rw_tree::{Alt, Decl, Expr, Local, Pat, Program, Rhs};
 use sqlite_items::Items;
 use std::alloc::Global;

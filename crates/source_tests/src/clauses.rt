@@ -1,9 +1,9 @@
 // Tests of what no clause says: that there is an answer with ample memory, and what short texts spell.
 
-use rw_clauses::{read_clause, read_expression, read_locals};
-use rw_grammar::Lexeme;
 use rw_lex::lex;
-use rw_patterns::{Unread, number_tokens};
+use rw_parser_clauses::{read_clause, read_expression, read_locals};
+use rw_parser_grammar::Lexeme;
+use rw_parser_patterns::{Unread, number_tokens};
 use sqlite_items::Items;
 use std::alloc::Global;
 use std::test::Fail;

@@ -1,7 +1,7 @@
 // Tests of what no clause says: that there is an answer with ample memory, and what it is on worked chains.
 
 use rw_base::{Fail, Name, Place, Refusal, Rule, Span};
-use rw_fixity::resolve_fixity;
+use rw_parser_fixity::resolve_fixity;
 use rw_tree::{Alt, Decl, Expr, Pat, Program, Rhs, Side};
 use sqlite_items::Items;
 use std::alloc::Global;

@@ -1,7 +1,7 @@
 //! The tests of the stages from the bytes of a source to its trees: tokens, layout, types and patterns, clauses, chains of
 //! operators, the trees themselves, and the declarations of the prelude.
 //!
-//! It leaves whole programs to `parser_examples`. Nothing uses it: it stands apart so that a stage is proved once, and not once more
+//! It leaves whole programs to `front_gallery`. Nothing uses it: it stands apart so that a stage is proved once, and not once more
 //! beside its tests. Begin with `lex.rt`, then `layout.rt`.
 #![tactic(auto)]
 

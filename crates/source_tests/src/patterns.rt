@@ -1,9 +1,9 @@
 // Tests of what no clause says: that there is an answer with ample memory.
 
 use rw_base::{Name, Place};
-use rw_grammar::{Lexeme, Mark, Spot};
 use rw_lex::lex;
-use rw_patterns::{number_tokens, read_pattern, written_type};
+use rw_parser_grammar::{Lexeme, Mark, Spot};
+use rw_parser_patterns::{number_tokens, read_pattern, written_type};
 use rw_tree::{Pat, Written};
 use std::alloc::Global;
 use std::test::Fail;

@@ -1,8 +1,8 @@
 // Whether the clauses of small functions cover, found with ample memory.
 
 use crate::source::bound_of;
-use rw_coverage::{Known, clauses_cover, constructor_counts, patterns_cover};
-use rw_scoping::{Binding, Bound};
+use rw_cover::{Known, clauses_cover, constructor_counts, patterns_cover};
+use rw_scope_rules::{Binding, Bound};
 use rw_tree::{Alt, Decl, Expr, Program, Rhs};
 use std::alloc::Global;
 use std::test::Fail;

@@ -1,7 +1,7 @@
 //! The tests of typing, of coverage and of systems: the world of a program, numbers for types, sorts, most general types, patterns
 //! that leave a value over, and the devices of a system.
 //!
-//! It leaves whole programs to `infer_examples` and `start_examples`. Nothing uses it: it stands apart so that a stage is proved
+//! It leaves whole programs to `front_gallery` and `source_worked`. Nothing uses it: it stands apart so that a stage is proved
 //! once, and not once more beside its tests. Begin with `world.rt` and `types.rt`, then `cover.rt`.
 #![tactic(auto)]
 

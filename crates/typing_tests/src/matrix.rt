@@ -1,8 +1,8 @@
 // Whether small matrices cover, found with ample memory.
 ghost use Rattle.std.specs.Prelude.{◌≤◌};
 
-use pattern_matrix::{Pattern, covers};
 use rw_base::OutOfMemory;
+use rw_cover_matrix::{Pattern, covers};
 use sqlite_items::Items;
 use std::alloc::Global;
 

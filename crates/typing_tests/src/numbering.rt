@@ -1,11 +1,11 @@
 // The numbers of a small block, taken with ample memory.
 
 use rw_base::{Name, OutOfMemory, Place, Span};
-use rw_numbering::number_declaration;
-use rw_scoping::{Binding, Bound, Operation};
+use rw_scope_rules::{Binding, Bound, Operation};
 use rw_tree::{Alt, Decl, Expr, Pat, Rhs, Stmt};
-use rw_types::{Numbered, World};
-use rw_typing::VariableKind;
+use rw_types_equations::{Numbered, World};
+use rw_types_numbering::number_declaration;
+use rw_types_rules::VariableKind;
 use sqlite_items::Items;
 use std::alloc::Global;
 use std::test::Fail;

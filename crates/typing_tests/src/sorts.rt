@@ -1,9 +1,9 @@
 // Sorts of small types.
 
 use rw_base::OutOfMemory;
-use rw_solving::{Head, Sort, Term};
-use rw_sorts::{all_sorted, is_of_sort};
-use rw_typing::VariableKind;
+use rw_types::{all_sorted, is_of_sort};
+use rw_types_rules::VariableKind;
+use rw_types_solving::{Head, Sort, Term};
 use sqlite_items::Items;
 use std::alloc::Global;
 

@@ -1,8 +1,8 @@
 // Sources as programs whose names are bound.
 
 use rw_base::Fail;
-use rw_binding::bind;
-use rw_scoping::Bound;
+use rw_scope_binding::bind;
+use rw_scope_rules::Bound;
 use rw_tree::Program;
 use scope_tests::program_of;
 use std::alloc::Global;

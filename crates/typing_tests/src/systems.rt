@@ -1,7 +1,7 @@
 // The parts of small bodies of `start`, found with ample memory.
 
 use crate::source::bound_of;
-use rw_scoping::Binding;
+use rw_scope_rules::Binding;
 use rw_systems::{Parts, split};
 use rw_tree::Expr;
 use std::test::Fail;

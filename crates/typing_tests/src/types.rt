@@ -1,10 +1,10 @@
 // The most general types of small declarations.
 
 use rw_base::{Name, Place, Span};
-use rw_scoping::Bound;
-use rw_solving::Failure;
+use rw_scope_rules::Bound;
 use rw_tree::Decl;
-use rw_types::{Numbered, World, most_general_types};
+use rw_types_equations::{Numbered, World, most_general_types};
+use rw_types_solving::Failure;
 use sqlite_items::Items;
 
 #[test]

@@ -2,10 +2,10 @@
 
 use crate::source::bound_of;
 use rw_base::Fail as Unread;
-use rw_solving::{Head, Term};
-use rw_types::{Scheme, World};
-use rw_typing::VariableKind;
-use rw_world::world;
+use rw_types_equations::{Scheme, World};
+use rw_types_rules::VariableKind;
+use rw_types_solving::{Head, Term};
+use rw_types_world::world;
 use std::alloc::Global;
 use std::test::Fail;
 

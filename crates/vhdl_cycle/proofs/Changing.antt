@@ -6,10 +6,10 @@ use Rattle.vh_tree.specs.Bench.{Schedule, settled, clocked, or_change, on_ok, ed
 use Rattle.vh_tree.specs.declared.design.Design.{Design}
 use Rattle.vh_tree.specs.declared.wire.Settled.{Settled}
 use Rattle.vh_tree.specs.declared.wire.State.{State}
-use Rattle.vh_flat.specs.declared.slot.Slot.{Slot}
-use Rattle.vh_flat.specs.Resolving.{IsResolved}
-use Rattle.vh_flat.specs.Standing.{FitsDesign, state_at}
-use Rattle.vh_standing.specs.Changes.{GivenLaw, given_at}
+use Rattle.vhdl_cycle_flat.specs.declared.slot.Slot.{Slot}
+use Rattle.vhdl_cycle_flat.specs.Resolving.{IsResolved}
+use Rattle.vhdl_cycle_flat.specs.Standing.{FitsDesign, state_at}
+use Rattle.vhdl_cycle_laws.specs.Changes.{GivenLaw, given_at}
 use Rattle.vhdl_cycle.specs.declared.unsettled.NotSettled.{NotSettled}
 use Rattle.vhdl_cycle.specs.declared.sim.Sim.{Sim}
 use Rattle.vhdl_cycle.specs.Buffers.{IsSameMachine}

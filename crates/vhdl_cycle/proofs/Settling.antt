@@ -4,10 +4,10 @@ use Rattle.vh_tree.specs.DeltaCycle.{Orders, AreOrders}
 use Rattle.vh_tree.specs.Bench.{settled, text_schedule}
 use Rattle.vh_tree.specs.Laws.{TextOrderLaw}
 use Rattle.vh_tree.specs.declared.design.Design.{Design}
-use Rattle.vh_flat.specs.Cycles.{Reaches, IsSettling}
-use Rattle.vh_flat.specs.Resolving.{IsResolved}
-use Rattle.vh_flat.specs.Standing.{FitsDesign}
-use Rattle.vh_standing.specs.Changes.{CyclesLaw, SettlingLaw}
+use Rattle.vhdl_cycle_flat.specs.Cycles.{Reaches, IsSettling}
+use Rattle.vhdl_cycle_flat.specs.Resolving.{IsResolved}
+use Rattle.vhdl_cycle_flat.specs.Standing.{FitsDesign}
+use Rattle.vhdl_cycle_laws.specs.Changes.{CyclesLaw, SettlingLaw}
 use Rattle.vhdl_cycle.specs.declared.sim.Sim.{Sim}
 use Rattle.vhdl_cycle.specs.Buffers.{IsSameMachine}
 use Rattle.vhdl_cycle.specs.Simulating.{StandsAt, Simulates, flat_of, state_of, most_cycles}

@@ -1,6 +1,6 @@
 -- What the functions inside promise each other of the buffers of a simulator.
 use Rattle.std.specs.Prelude.{◌≡◌, ℕ, replicate, true, false}
-use Rattle.vh_flat.specs.Cycles.{State as Flat}
+use Rattle.vhdl_cycle_flat.specs.Cycles.{State as Flat}
 use Rattle.rw_base.specs.declared.bit.Bit9.TheVariants.{U}
 use Rattle.vhdl_cycle.specs.declared.sim.Sim.{Sim}
 

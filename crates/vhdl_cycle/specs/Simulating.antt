@@ -6,11 +6,11 @@ use Rattle.vh_tree.specs.StaticRules.{IsStatic, process_vars}
 use Rattle.vh_tree.specs.declared.design.Design.{Design}
 use Rattle.vh_tree.specs.declared.wire.State.{State}
 use Rattle.vh_tree.specs.declared.wire.Settled.{Settled}
-use Rattle.vh_flat.specs.Cycles.{State as Flat}
-use Rattle.vh_flat.specs.Names.{slots_of}
-use Rattle.vh_flat.specs.declared.slot.Slot.{Slot}
-use Rattle.vh_flat.specs.Resolving.{IsResolved}
-use Rattle.vh_flat.specs.Standing.{FitsDesign, state_at}
+use Rattle.vhdl_cycle_flat.specs.Cycles.{State as Flat}
+use Rattle.vhdl_cycle_flat.specs.Names.{slots_of}
+use Rattle.vhdl_cycle_flat.specs.declared.slot.Slot.{Slot}
+use Rattle.vhdl_cycle_flat.specs.Resolving.{IsResolved}
+use Rattle.vhdl_cycle_flat.specs.Standing.{FitsDesign, state_at}
 use Rattle.rw_base.specs.declared.bit.Bit9.{Bit9}
 use Rattle.rw_base.specs.declared.bit.Bit9.TheVariants.{Zero}
 use Rattle.vhdl_cycle.specs.declared.unsettled.NotSettled.{NotSettled}

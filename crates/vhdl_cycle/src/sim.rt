@@ -1,16 +1,16 @@
 // The simulator: its buffers, and one call for each kind of change.
 ghost use Rattle.std.specs.Prelude.{◌≡◌, ◌≤◌, [], length, vec_capacity};
 ghost use Rattle.vh_tree.specs.Bits.{Bits};
-ghost use Rattle.vh_flat.specs.Delta.{room_ran};
+ghost use Rattle.vhdl_cycle_flat.specs.Delta.{room_ran};
 
 use crate::NotSettled;
 use crate::filled::filled;
 use rw_base::{Bit9, OutOfMemory};
 use std::alloc::Global;
-use vh_flat::{Resolved, Slot, settle};
-use vh_resolve::resolve;
-use vh_standing::{cycles_law, port_law};
 use vh_tree::{Design, order_law};
+use vhdl_cycle_flat::{Resolved, Slot, settle};
+use vhdl_cycle_laws::{cycles_law, port_law};
+use vhdl_cycle_resolve::resolve;
 
 // Where the two ports of one bit stand.
 const CLK: Slot = Slot {
@@ -146,8 +146,8 @@ impl Sim {
     ghost use Rattle.vh_tree.specs.Bench.{settled, or_change, set_port, wires_of};
     ghost use Rattle.vh_tree.specs.StaticRules.{IsStatic};
     ghost use Rattle.vh_tree.specs.declared.design.Design.{Design};
-    ghost use Rattle.vh_flat.specs.Cycles.{IsSettling, Reaches};
-    ghost use Rattle.vh_standing.specs.Changes.{given_at};
+    ghost use Rattle.vhdl_cycle_flat.specs.Cycles.{IsSettling, Reaches};
+    ghost use Rattle.vhdl_cycle_laws.specs.Changes.{given_at};
     ghost use Rattle.vhdl_cycle.specs.Simulating.{flat_of, StandsAt, Simulates, state_of, change_of, most_cycles, last_change, IsChanged};
     ghost use Rattle.vhdl_cycle.specs.Buffers.{fresh_flat, IsSameMachine};
 

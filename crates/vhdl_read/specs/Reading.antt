@@ -6,8 +6,8 @@ use Rattle.vh_tree.specs.declared.design.Design.{Design}
 use Rattle.vh_tree.specs.Text.{all_allowed}
 use Rattle.vh_tree.specs.Spelling.{IsSpelled, BreaksBytes, BreaksTokens, BreaksGrammar}
 use Rattle.vh_tree.specs.StaticRules.{IsStatic, first_broken}
-use Rattle.vh_static.specs.declared.fail.VFail.{VFail}
-use Rattle.vh_static.specs.declared.fail.VFail.TheVariants as fail
+use Rattle.vh_tree_static.specs.declared.fail.VFail.{VFail}
+use Rattle.vh_tree_static.specs.declared.fail.VFail.TheVariants as fail
 
 -- the text breaks this rule of spelling, and none before it
 abbrev pub IsBroken : List ℕ → VRule → Type 0

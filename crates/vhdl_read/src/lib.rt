@@ -2,7 +2,7 @@
 //! rules V1 to V8 that it breaks.
 //!
 //! It leaves the definitions, and all laws about them, to `vh_tree`, and judging the static rules V4 to V8 to
-//! `vh_static`. Whoever simulates or checks a text from outside begins here. Begin with `judged.rt`, then `spelled.rt`
+//! `vh_tree_static`. Whoever simulates or checks a text from outside begins here. Begin with `judged.rt`, then `spelled.rt`
 //! and `scan.rt`; the grammar rule stands above each reader.
 #![tactic(auto)]
 
@@ -24,4 +24,4 @@ pub use judged::read;
 pub use scan::tokens_of;
 pub use spelled::read_spelled;
 pub use unread::Unread;
-pub use vh_static::VFail;
+pub use vh_tree_static::VFail;

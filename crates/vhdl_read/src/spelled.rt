@@ -5,7 +5,7 @@ ghost use Rattle.vh_tree.specs.declared.design.Design.{Design};
 ghost use Rattle.vh_tree.specs.Text as text;
 ghost use Rattle.vh_tree.specs.Spelling.{IsSpelled, BreaksBytes, BreaksTokens, BreaksGrammar};
 ghost use Rattle.vhdl_read.specs.Reading.{IsAnswer, IsUnlessMemory};
-ghost use Rattle.vh_static.specs.declared.fail.VFail.TheVariants as fail;
+ghost use Rattle.vh_tree_static.specs.declared.fail.VFail.TheVariants as fail;
 
 use crate::Unread;
 use crate::class::is_allowed;
@@ -13,8 +13,8 @@ use crate::design::whole_design;
 use crate::scan::scan;
 use rw_base::VRule;
 use std::alloc::Global;
-use vh_static::VFail;
 use vh_tree::{Design, designs_are_read, one_design_for_a_text, tokens_are_scanned};
+use vh_tree_static::VFail;
 
 // V1 is kept: every byte may stand in a text.
 fn all_allowed(bytes: &[u8]) -> bool

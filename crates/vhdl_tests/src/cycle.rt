@@ -3,7 +3,7 @@
 use crate::texts::{OSCILLATING, SWITCH};
 use rw_base::Bit9;
 use std::test::Fail;
-use vh_static::check_static;
+use vh_tree_static::check_static;
 use vhdl_cycle::{NotSettled, Sim};
 use vhdl_read::read;
 

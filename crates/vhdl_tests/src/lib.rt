@@ -1,7 +1,7 @@
 //! The tests of VHDL: designs as texts and texts as designs, the static rules, names resolved to places, delta cycles, and the plain
 //! simulator that the definitions are computed by.
 //!
-//! It leaves the definitions computed by proof to `vh_examples`, and traces to `machine_tests`. Nothing uses it: it stands apart so
+//! It leaves the definitions computed by proof to `vhdl_worked`, and traces to `machine_tests`. Nothing uses it: it stands apart so
 //! that a stage is proved once, and not once more beside its tests. Begin with `print.rt` and `read.rt`, then `cycle.rt`.
 #![tactic(auto)]
 

@@ -5,8 +5,8 @@ use rw_base::Bit9;
 use sqlite_items::Items;
 use std::alloc::Global;
 use std::test::Fail;
-use vh_plain::{PlainFail, append_call, append_value, bench};
 use vh_tree::{Design, Held, Ident, VExpr};
+use vh_tree_plain::{PlainFail, append_call, append_value, bench};
 use vhdl_read::read;
 
 type Made<T> = Result<T, PlainFail>;

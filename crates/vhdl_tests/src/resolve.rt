@@ -2,7 +2,7 @@
 
 use crate::texts::SWITCH;
 use std::test::Fail;
-use vh_resolve::resolve;
+use vhdl_cycle_resolve::resolve;
 use vhdl_read::read;
 
 // Five ports and signals of one bit each; two parameters and three variables of one bit; and two bits of scratch, for the

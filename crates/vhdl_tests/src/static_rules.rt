@@ -3,8 +3,8 @@
 use crate::designs::{Plan, SWITCH, oscillating, pass, switch, switch_with_low};
 use rw_base::{OutOfMemory, VRule};
 use std::alloc::Global;
-use vh_static::{VFail, check_static};
 use vh_tree::Design;
+use vh_tree_static::{VFail, check_static};
 
 type Made<T> = Result<T, OutOfMemory>;
 

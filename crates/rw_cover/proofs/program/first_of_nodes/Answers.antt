@@ -1,6 +1,6 @@
 -- One node more.
-use Rattle.rw_nodes.specs.Plain.{plain_node}
-use Rattle.rw_coverage.specs.Coverage.{node_group}
+use Rattle.rw_scope_nodes.specs.Plain.{plain_node}
+use Rattle.rw_cover.specs.Coverage.{node_group}
 use Rattle.rw_cover.proofs.Groups.{next_first}
 use Rattle.rw_cover.proofs.program.first_of_nodes.Goals as goal
 

@@ -1,7 +1,7 @@
 -- What the loop keeps: the first place so far is that of the nodes so far.
 use Rattle.std.proofs.Common.{flat_map, take}
-use Rattle.rw_nodes.specs.Plain.{plain_nodes}
-use Rattle.rw_coverage.specs.Coverage.{node_group}
+use Rattle.rw_scope_nodes.specs.Plain.{plain_nodes}
+use Rattle.rw_cover.specs.Coverage.{node_group}
 use Rattle.rw_cover.specs.Correct.{IsFirst}
 use Rattle.rw_cover.proofs.program.first_of_nodes.Given as goal
 

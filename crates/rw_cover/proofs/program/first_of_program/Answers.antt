@@ -1,7 +1,7 @@
 -- The functions at top level and the nodes together.
 use Rattle.std.proofs.Common.{◌∙◌, ap}
-use Rattle.rw_scoping.specs.declared.binding.Bound.{Bound}
-use Rattle.rw_nodes.specs.Plain.{plain_nodes}
+use Rattle.rw_scope_rules.specs.declared.binding.Bound.{Bound}
+use Rattle.rw_scope_nodes.specs.Plain.{plain_nodes}
 use Rattle.rw_cover.proofs.Whole.{whole_first}
 use Rattle.rw_cover.proofs.program.first_of_program.Goals as goal
 

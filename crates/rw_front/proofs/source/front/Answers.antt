@@ -2,8 +2,8 @@ use Rattle.std.proofs.Common.{subst, rules, ◌≡◌, List, Result}
 use Rattle.rw_base.specs.declared.fail.Fail.{Fail}
 use Rattle.rw_tree.specs.Declarations.{plain_program}
 use Rattle.rw_tree.specs.declared.program.Program.{Program}
-use Rattle.rw_scoping.specs.declared.binding.Bound.{Bound}
-use Rattle.rw_infer.specs.declared.typed.TypedDecl.{TypedDecl}
+use Rattle.rw_scope_rules.specs.declared.binding.Bound.{Bound}
+use Rattle.rw_types.specs.declared.typed.TypedDecl.{TypedDecl}
 use Rattle.rw_front.specs.declared.source.Checked.{Checked}
 use Rattle.rw_front.specs.Fronts.{Fronts}
 use Rattle.rw_front.proofs.Answered.{names_err, types_err, patterns_err, start_err, all_ok, failed}

@@ -1,8 +1,8 @@
 use Rattle.std.proofs.Common.{subst, ap, Some}
 use Rattle.rw_tree.specs.Declarations.{plain_program, PlainProgram}
-use Rattle.rw_scoping.specs.declared.binding.Bound.{Bound}
+use Rattle.rw_scope_rules.specs.declared.binding.Bound.{Bound}
 use Rattle.rw_cover.specs.Correct.{IsFirst}
-use Rattle.rw_coverage.specs.Coverage.{groups_of}
+use Rattle.rw_cover.specs.Coverage.{groups_of}
 use Rattle.rw_front.specs.Verdict.{IsCoveredAs}
 use Rattle.rw_front.proofs.Answered.{err_of, keeps_err}
 use Rattle.rw_front.proofs.stages.covered.Goals as goal

@@ -1,7 +1,7 @@
 use Rattle.std.proofs.Common.{refl, map, List}
 use Rattle.rw_tree.specs.Declarations.{plain_program}
-use Rattle.rw_infer.specs.declared.typed.TypedDecl.{TypedDecl}
-use Rattle.rw_infer.specs.Inferred.{seen}
+use Rattle.rw_types.specs.declared.typed.TypedDecl.{TypedDecl}
+use Rattle.rw_types.specs.Inferred.{seen}
 use Rattle.rw_front.proofs.Answered.{same_default, typed_ok, typed_err}
 use Rattle.rw_front.proofs.stages.typed.Goals as goal
 

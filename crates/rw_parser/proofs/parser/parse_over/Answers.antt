@@ -1,7 +1,7 @@
 -- The whole, from what is kept of its items.
 use Rattle.std.proofs.Common.{◌≡◌, ◌∙◌, length}
 use Rattle.std.proofs.lemmas.Result.{err_from_is_err_and}
-use Rattle.rw_grammar.specs.Lexemes.{lexemes}
+use Rattle.rw_parser_grammar.specs.Lexemes.{lexemes}
 use Rattle.rw_parser.proofs.Whole.{within, broken_parse, whole_parse}
 use Rattle.rw_parser.proofs.parser.parse_over.Goals as goal
 

@@ -1,8 +1,8 @@
 -- What is kept so far, before what is kept of the runs that are left, is what is kept of all.
 use Rattle.std.proofs.Common.{◌≡◌, ◌≤◌, ℕ, List, Some, length}
-use Rattle.rw_grammar.specs.declared.lexeme.Lexeme.{Lexeme}
-use Rattle.rw_grammar.specs.ReadProgram.{runs_at, items_at}
-use Rattle.rw_runs.specs.Shallow.{kept_behind, nothing}
+use Rattle.rw_parser_grammar.specs.declared.lexeme.Lexeme.{Lexeme}
+use Rattle.rw_parser_grammar.specs.ReadProgram.{runs_at, items_at}
+use Rattle.rw_parser.specs.Shallow.{kept_behind, nothing}
 use Rattle.rw_parser.specs.Clauses.{ReadsClauses}
 use Rattle.rw_parser.proofs.Turns.{Left}
 use Rattle.rw_parser.proofs.program.read_runs.Given as goal

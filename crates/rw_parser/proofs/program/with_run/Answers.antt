@@ -1,7 +1,7 @@
 -- A run behind what is kept, by its item.
 use Rattle.std.proofs.Common.{◌≡◌, ◌∙◌, take, None, refl, sym, ap}
-use Rattle.rw_grammar.specs.Grammar.{whole_run}
-use Rattle.rw_grammar.specs.Lexemes.{next_spot}
+use Rattle.rw_parser_grammar.specs.Grammar.{whole_run}
+use Rattle.rw_parser_grammar.specs.Lexemes.{next_spot}
 use Rattle.rw_parser.specs.Reading.{run_kept}
 use Rattle.rw_parser.proofs.Turns.{whole, taken_within, index_is, kept_next, refused_next}
 use Rattle.rw_parser.proofs.program.with_run.Goals as goal

@@ -2,8 +2,8 @@
 use Rattle.std.proofs.Common.{rules, ◌≡◌, Err, None, sym, subst}
 use Rattle.rw_base.specs.declared.rule.Rule.TheVariants.{E15, E16}
 use Rattle.rw_tree.specs.Declarations.{plain_program}
-use Rattle.rw_scoping.specs.Names.{earliest}
-use Rattle.rw_scoping.specs.Verdict.{broken_first}
+use Rattle.rw_scope_rules.specs.Names.{earliest}
+use Rattle.rw_scope_rules.specs.Verdict.{broken_first}
 use Rattle.rw_start.specs.Start.{improper_start}
 use Rattle.rw_start.specs.Positions.{misplaced}
 use Rattle.rw_start.specs.Judged.{IsJudged}

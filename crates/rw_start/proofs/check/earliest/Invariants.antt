@@ -1,6 +1,6 @@
 -- The first so far is that of the places from here on.
 use Rattle.std.proofs.Common.{◌≡◌, ◌≤◌, drop, length}
-use Rattle.rw_scoping.specs.Names.{earliest}
+use Rattle.rw_scope_rules.specs.Names.{earliest}
 use Rattle.rw_start.proofs.check.earliest.Given as goal
 
 abbrev pub invariant-loop-at : goal.invariant-loop-at

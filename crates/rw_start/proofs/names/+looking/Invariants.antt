@@ -1,7 +1,7 @@
 -- What the loops over lists of trees keep: the places of the trees so far stand behind the old ones.
 use Rattle.std.proofs.Common.{◌≡◌, ◌++◌, take, map, flat_map}
 use Rattle.rw_tree.specs.Trees.{alternative_of, expression, guarded, local_binding, statement}
-use Rattle.rw_scoping.specs.Nodes.{binding_nodes, body_nodes, clause_nodes, expression_nodes, statement_nodes}
+use Rattle.rw_scope_rules.specs.Nodes.{binding_nodes, body_nodes, clause_nodes, expression_nodes, statement_nodes}
 use Rattle.rw_start.specs.Positions.{strays}
 use Rattle.rw_start.proofs.names.+looking.Given as goal
 

@@ -5,7 +5,7 @@ use Rattle.rw_base.specs.declared.bit.Bit9.TheVariants.{Zero, One}
 use Rattle.vh_tree.specs.Bits.{Bits}
 use Rattle.vh_tree.specs.Bench.{set_port}
 use Rattle.vh_tree.specs.declared.design.Design.{Design}
-use Rattle.vh_flat.specs.declared.slot.Slot.{Slot}
+use Rattle.vhdl_cycle_flat.specs.declared.slot.Slot.{Slot}
 use Rattle.vhdl_cycle.specs.Simulating.{StandsAt}
 use Rattle.vhdl_cycle.proofs.Changing.{inp_wide}
 use Rattle.vhdl_cycle.proofs.sim.Sim.new.Goals as goal

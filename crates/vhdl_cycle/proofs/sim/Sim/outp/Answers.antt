@@ -1,6 +1,6 @@
 -- The bits in the place of `outp` are its value.
 use Rattle.std.proofs.Common.{ap, ◌∙◌, codes}
-use Rattle.vh_flat.specs.Flat.{part_of}
+use Rattle.vhdl_cycle_flat.specs.Flat.{part_of}
 use Rattle.vhdl_cycle.specs.Simulating.{flat_of}
 use Rattle.vhdl_cycle.proofs.sim.Sim.outp.Goals as goal
 

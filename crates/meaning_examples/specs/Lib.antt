@@ -1,2 +1,0 @@
--- Devices, and the values that go in and out.
-pub mod Devices

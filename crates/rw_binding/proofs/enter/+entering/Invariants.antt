@@ -1,8 +1,0 @@
--- What the loop keeps: the scope after what is left is the whole scope.
-use Rattle.std.proofs.Common.{◌≡◌, drop}
-use Rattle.rw_tree.specs.Patterns.{patterns}
-use Rattle.rw_scoping.specs.Bindings.{inside_row}
-use Rattle.rw_binding.proofs.enter.+entering.Given as goal
-
-abbrev pub invariant-enter_row-loop-pat : goal.invariant-enter_row-loop-pat
-invariant-enter_row-loop-pat l = inside_row (patterns (λ a. a) (drop l.pat-index l.pats)) l.scope ≡ inside_row (patterns (λ a. a) l.pats) l.fn.scope

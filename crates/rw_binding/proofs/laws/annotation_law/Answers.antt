@@ -1,6 +1,0 @@
--- Binding changes annotations alone.
-use Rattle.rw_binding.proofs.Unchanged.{program_same}
-use Rattle.rw_binding.proofs.laws.annotation_law.Goals as goal
-
-pub returns : goal.returns
-returns c = program_same

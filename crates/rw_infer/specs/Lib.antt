@@ -1,4 +1,0 @@
--- What public contracts rest on.
-pub mod Inferred
--- What functions inside promise each other.
-pub mod Inside

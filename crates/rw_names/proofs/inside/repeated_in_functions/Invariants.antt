@@ -1,8 +1,0 @@
--- What the loop keeps: the places so far are those of the nodes so far.
-use Rattle.std.proofs.Common.{◌≡◌, take, flat_map}
-use Rattle.rw_scoping.specs.Scope.{repeated_in_node}
-use Rattle.rw_nodes.specs.Plain.{plain_nodes}
-use Rattle.rw_names.proofs.inside.repeated_in_functions.Given as goal
-
-abbrev pub invariant-loop-node : goal.invariant-loop-node
-invariant-loop-node l = l.places.items ≡ flat_map repeated_in_node (plain_nodes (take l.node-index l.node-items))

@@ -1,8 +1,0 @@
--- What the loop keeps: the types so far have known names.
-use Rattle.std.proofs.Common.{◌≡◌, true, take, flat_map}
-use Rattle.rw_tree.specs.Types.{writtens}
-use Rattle.rw_scoping.specs.Scope.{are_among, type_constructors}
-use Rattle.rw_names.proofs.types.+constructors.Given as goal
-
-abbrev pub invariant-all_constructors_are-loop-written : goal.invariant-all_constructors_are-loop-written
-invariant-all_constructors_are-loop-written l = are_among (flat_map type_constructors (writtens (take l.written-index l.types))) l.known ≡ true

@@ -1,9 +1,0 @@
--- Lemmas.
-pub mod Relabelling
-pub mod Seen
-pub mod Filled
-pub mod Filling
-pub mod Exact
-pub mod Fitting
-pub mod Instances
-pub mod Own

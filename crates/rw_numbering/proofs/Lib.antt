@@ -1,4 +1,0 @@
--- Lemmas.
-pub mod Each
-pub mod Arms
-pub mod Typed

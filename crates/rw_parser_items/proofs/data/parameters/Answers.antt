@@ -1,0 +1,30 @@
+use Rattle.std.proofs.Common.{rules, ◌≡◌, length, ◌+◌, ◌-◌, true, false, ap, sym, ◌∙◌, arith, ◌⊎◌, inl, inr}
+use Rattle.std.proofs.lemmas.Result.{err_from_is_err_and}
+use Rattle.rw_parser_grammar.specs.Read.{many_at, begins_variable}
+use Rattle.rw_parser_patterns.proofs.Turns.{with_front, fails_on, many_step, many_fail, many_done}
+use Rattle.rw_parser_items.proofs.Turns.{parameter_turns}
+use Rattle.rw_parser_items.specs.Named.{parameter_at}
+use Rattle.rw_parser_items.proofs.data.parameters.Goals as goal
+use Rattle.rw_parser_items.proofs.data.parameters.Goals.{else-loop-turn-test, then-loop-turn-test+then-not-begins_variable}
+
+pub returns-in_err-one : goal.returns-in_err-one
+returns-in_err-one c =
+    let p = err_from_is_err_and c.from_residual.result c.from_residual.ensures.1 in
+    let begins : begins_variable c.loop-turn.rest.now ≡ true = search rules in
+    rw (p.1, p.2) (fails_on c.in_err-one.field-0.0 (parameter_at c.loop-turn.rest.now) _ c.in_err-one.ensures
+    (λ h. parameter_turns c.args.tokens.now ∙ sym c.loop-turn.invariant
+    ∙ many_fail begins_variable parameter_at _ (length c.args.tokens.now - (c.loop-turn._turn + 1)) c.loop-turn.rest.now c.loop-turn.all (omega arith) begins h))
+
+pub loop-turn-preserved : goal.loop-turn-preserved
+loop-turn-preserved c =
+    let next = length c.args.tokens.now - (c.loop-turn._turn + 1) in
+    let begins : begins_variable c.loop-turn.rest.now ≡ true = search rules in
+    let step = many_step begins_variable parameter_at (length c.args.tokens.now - c.loop-turn._turn) next c.loop-turn.rest.now c.loop-turn.all c.in_ok-one.one c.in_ok-one.behind.now (omega arith) begins c.in_ok-one.ensures in
+    ap (λ f. with_front f (many_at begins_variable parameter_at next c.in_ok-one.behind.now)) c.in_ok-push.ensures.ok ∙ step ∙ c.loop-turn.invariant
+
+pub returns : goal.returns
+returns c =
+    let left = length c.args.tokens.now - c.loop-turn._turn in
+    let done : (left ≡ 0) ⊎ (begins_variable c.loop-turn.rest.now ≡ false) =
+    elim c.loop-turn-test.branch [ else-loop-turn-test w ↦ inl (omega arith) | then-loop-turn-test+then-not-begins_variable w ↦ inr (search rules) ] in
+    parameter_turns c.args.tokens.now ∙ sym c.loop-turn.invariant ∙ many_done begins_variable parameter_at left c.loop-turn.rest.now c.loop-turn.all done

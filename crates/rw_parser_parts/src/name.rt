@@ -1,0 +1,77 @@
+// Names and operators where they are used and where they are bound (Haskell 2010 Report, section 3.2).
+ghost use Rattle.rw_parser_grammar.specs.ReadNames as names;
+ghost use Rattle.rw_parser_grammar.specs.ReadClauses as clauses;
+ghost use Rattle.rw_parser_patterns.specs.Given.{Gives};
+
+use rw_base::{Name, Span};
+use rw_parser_grammar::{Lexeme, Mark};
+use rw_parser_patterns::{Unread, after, same_mark, span_at};
+use rw_tree::Expr;
+use std::alloc::Global;
+
+// Behind a backquote: (var | Con) `` ` ``
+fn quoted(alloc: Global, tokens: &[Lexeme]) -> Result<(Expr<Span>, &[Lexeme]), Unread>
+    ensures { Gives (λ x. (x.0, x.1.now)) result (names.quoted_at tokens.now) }
+{
+    match tokens {
+        [Lexeme::Variable(at, name), rest @ ..] => {
+            let behind = after(rest, Mark::Backquote)?;
+            Ok((Expr::Var(span_at(*at, rest), name.copied(alloc)?), behind))
+        }
+        [Lexeme::Constructor(at, name), rest @ ..] => {
+            let behind = after(rest, Mark::Backquote)?;
+            Ok((Expr::Con(span_at(*at, rest), name.copied(alloc)?), behind))
+        }
+        _ => Err(Unread::NotSpelled),
+    }
+}
+
+// op ::= Operator | `` ` `` (var | Con) `` ` ``
+pub fn op(alloc: Global, tokens: &[Lexeme]) -> Result<(Expr<Span>, &[Lexeme]), Unread>
+    ensures { Gives (λ x. (x.0, x.1.now)) result (names.op_at tokens.now) }
+{
+    match tokens {
+        [Lexeme::Mark(_, mark), rest @ ..] => {
+            if same_mark(*mark, Mark::Backquote) {
+                quoted(alloc, rest)
+            } else {
+                Err(Unread::NotSpelled)
+            }
+        }
+        [Lexeme::Operator(at, name), rest @ ..] => {
+            Ok((Expr::Var(span_at(*at, rest), name.copied(alloc)?), rest))
+        }
+        _ => Err(Unread::NotSpelled),
+    }
+}
+
+// var `` ` ``
+#[tactic(auto, unfolding(rw_parser_grammar::specs::ReadClauses::variable_quoted_at))]
+fn variable_quoted(alloc: Global, tokens: &[Lexeme]) -> Result<(Name, &[Lexeme]), Unread>
+    ensures { Gives (λ x. (x.0, x.1.now)) result (clauses.variable_quoted_at tokens.now) }
+{
+    match tokens {
+        [Lexeme::Variable(_, name), rest @ ..] => {
+            let behind = after(rest, Mark::Backquote)?;
+            Ok((name.copied(alloc)?, behind))
+        }
+        _ => Err(Unread::NotSpelled),
+    }
+}
+
+// Operator | `` ` `` var `` ` ``
+pub fn variable_operator(alloc: Global, tokens: &[Lexeme]) -> Result<(Name, &[Lexeme]), Unread>
+    ensures { Gives (λ x. (x.0, x.1.now)) result (clauses.variable_operator_at tokens.now) }
+{
+    match tokens {
+        [Lexeme::Mark(_, mark), rest @ ..] => {
+            if same_mark(*mark, Mark::Backquote) {
+                variable_quoted(alloc, rest)
+            } else {
+                Err(Unread::NotSpelled)
+            }
+        }
+        [Lexeme::Operator(_, name), rest @ ..] => Ok((name.copied(alloc)?, rest)),
+        _ => Err(Unread::NotSpelled),
+    }
+}

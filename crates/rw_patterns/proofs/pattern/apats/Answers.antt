@@ -1,5 +1,0 @@
-use Rattle.rw_patterns.proofs.Enough.{apats_enough}
-use Rattle.rw_patterns.proofs.pattern.apats.Goals as goal
-
-pub returns-clause-read : goal.returns-clause-read
-returns-clause-read c n h = rw (apats_enough n c.args.tokens.now h) c.read_apats.ensures.read

@@ -1,0 +1,14 @@
+-- One declaration more, and at last all.
+use Rattle.std.proofs.Common.{arith}
+use Rattle.rw_tree.specs.Declarations.{declaration}
+use Rattle.rw_scope_rules.specs.Kinds.{data_kinds}
+use Rattle.rw_scope_kinds.proofs.Tables.{one_declaration, all_declarations}
+use Rattle.rw_scope_kinds.proofs.context.add_data.Goals as goal
+
+pub loop-decl-preserved : goal.loop-decl-preserved
+loop-decl-preserved c =
+    one_declaration (declaration (λ a. a)) data_kinds c.args.decls.now c.loop-decl.decl-index c.decl-item.result c.args.types.now c.loop-decl.types c.add_decl.new.types
+    (omega arith) c.decl-item.is c.in_ok-add_decl.ensures c.loop-decl.invariant
+
+pub returns : goal.returns
+returns c = all_declarations (declaration (λ a. a)) data_kinds c.args.decls.now c.loop-decl.decl-index c.args.types.now c.loop-decl.types (omega arith) c.loop-decl.invariant

@@ -1,0 +1,11 @@
+-- What the loop keeps: the bindings that are left are judged behind what was seen.
+use Rattle.std.proofs.Common.{◌≡◌, ◌++◌, [], drop, map}
+use Rattle.rw_tree.specs.Trees.{binding_parts, local_binding}
+use Rattle.rw_scope_rules.specs.Names.{repeated}
+use Rattle.rw_scope_rules.specs.Bindings.{group_variables}
+use Rattle.rw_scope_names.proofs.variables.see_bindings.Given as goal
+
+abbrev pub invariant-loop-local : goal.invariant-loop-local
+invariant-loop-local l =
+    l.places.items ++ repeated l.seen (group_variables (binding_parts (map (local_binding (λ a. a)) (drop l.local-index l.locals))))
+    ≡ l.fn.places.items ++ repeated [] (group_variables (binding_parts (map (local_binding (λ a. a)) l.locals)))

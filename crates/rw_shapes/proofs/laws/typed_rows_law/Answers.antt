@@ -1,6 +1,0 @@
--- Declaration by declaration.
-use Rattle.rw_shapes.proofs.Programs.{program_stands}
-use Rattle.rw_shapes.proofs.laws.typed_rows_law.Goals as goal
-
-pub returns : goal.returns
-returns c = program_stands

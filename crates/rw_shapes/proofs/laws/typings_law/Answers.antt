@@ -1,6 +1,0 @@
--- What covers at all types covers at these.
-use Rattle.rw_shapes.proofs.Typable.{typings_match}
-use Rattle.rw_shapes.proofs.laws.typings_law.Goals as goal
-
-pub returns : goal.returns
-returns c = typings_match

@@ -1,6 +1,0 @@
--- The table stays one.
-use Rattle.rw_solving.specs.Tables.{equations, IsTable}
-use Rattle.rw_solving.proofs.tests.solved.Given as goal
-
-abbrev pub invariant-loop-pair : goal.invariant-loop-pair
-invariant-loop-pair l = IsTable (equations l.table)

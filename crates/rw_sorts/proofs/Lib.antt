@@ -1,2 +1,0 @@
--- Laws of sorts, which the crates above may cite.
-pub mod Sorting

@@ -1,2 +1,0 @@
--- What functions inside promise each other.
-pub mod Testing

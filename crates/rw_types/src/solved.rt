@@ -1,0 +1,36 @@
+// The default types of the numbers of a declaration.
+ghost use Rattle.std.specs.Prelude.{◌≡◌, IfOk, Err};
+ghost use Rattle.rw_types_equations.specs.Seen.{seen_world};
+ghost use Rattle.rw_types.specs.Inferred.{type_of};
+ghost use Rattle.rw_types.specs.Inside.{IsSolved, HasNoSolution};
+
+use crate::carried::are_carried;
+use crate::general::general_types;
+use crate::kinds::sorts_of;
+use rw_tree::Decl;
+use rw_types_equations::{Numbered, World};
+use rw_types_rules::VariableKind;
+use rw_types_solving::{Failure, Term, closed_all};
+use sqlite_items::Items;
+use std::alloc::Global;
+
+// The types of the numbers of a declaration, which are of these kinds, in the most general way, with leftover variables
+// closed. Refused only where no types of these kinds agree.
+pub fn default_types(
+    alloc: Global,
+    tree: &Decl<Numbered>,
+    world: &World,
+    slots: &[VariableKind],
+    own: &[VariableKind],
+) -> Result<Items<Term>, Failure>
+    ensures solved { IfOk result (λ made. IsSolved (seen_world world.now) tree.now slots.now own.now (type_of made)) }
+    ensures refused { result ≡ Err Failure.Refused → HasNoSolution (seen_world world.now) tree.now slots.now own.now }
+{
+    let types = general_types(alloc, tree, world, slots.len())?;
+    if !are_carried(alloc, types.as_slice(), slots, own)? {
+        return Err(Failure::Refused);
+    }
+    let sorts = sorts_of(alloc, slots)?;
+    let closed = closed_all(alloc, types.as_slice(), sorts.as_slice())?;
+    Ok(closed)
+}

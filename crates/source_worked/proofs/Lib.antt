@@ -1,0 +1,2 @@
+-- Lemmas: a device of which no typing is right.
+pub mod Untypable

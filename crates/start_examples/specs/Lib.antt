@@ -1,2 +1,0 @@
--- Small programs, and what is broken in them.
-pub mod Programs

@@ -1,2 +1,0 @@
--- The words that public contracts rest on.
-pub mod Programs

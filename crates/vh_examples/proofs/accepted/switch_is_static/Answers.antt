@@ -1,6 +1,0 @@
--- By computing: the equation of each production, as often as they fit.
-use Rattle.vh_examples.proofs.Folds.{at-Assign, at-If, at-Branch, at-Name, at-Literal, at-Call}
-use Rattle.vh_examples.proofs.accepted.switch_is_static.Goals as goal
-
-pub returns : goal.returns
-returns c = simp (at-Assign, at-If, at-Branch, at-Name, at-Literal, at-Call)

@@ -1,7 +1,0 @@
-use Rattle.std.proofs.Common.{rules}
-use Rattle.vh_flat.proofs.Places.{bit_written}
-use Rattle.vh_flat.proofs.leaves.put.Goals as goal
-
-pub returns-then-start-frame : goal.returns-then-start-frame
-returns-then-start-frame c =
-    bit_written c.args.frame.now c.args.bits.now c.args.from c.min-start.result (search rules) (search rules) (search rules) (search rules)

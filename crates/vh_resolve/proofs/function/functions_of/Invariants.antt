@@ -1,9 +1,0 @@
-use Rattle.std.proofs.Common.{drop}
-use Rattle.vh_flat.specs.Names.{no_frames}
-use Rattle.vh_resolve.specs.Framed.{IsFramed}
-use Rattle.vh_resolve.specs.Over.{frames_in}
-use Rattle.vh_resolve.specs.declared.function.Functions.{Functions}
-use Rattle.vh_resolve.proofs.function.functions_of.Given as goal
-
-abbrev pub invariant-loop-item : goal.invariant-loop-item
-invariant-loop-item l = (end : Functions) → IsFramed (frames_in l.funs) l.store (drop l.item-index l.items) end → IsFramed no_frames 0 l.items end

@@ -1,0 +1,11 @@
+-- The table says what its entries say.
+use Rattle.std.proofs.Common.{ℕ, ◌∙◌, ap, is_some, Vec, Global}
+use Rattle.vhdl_cycle_resolve.specs.Tables.{known_in}
+use Rattle.vhdl_cycle_resolve.proofs.Entries.{found}
+use Rattle.vhdl_cycle_resolve.proofs.table.Table.has.Goals as goal
+
+pub returns : goal.returns
+returns g c =
+    let index = c.self.inside.index in
+    c.contains_key.ensures ∙ ap is_some (found {K = Vec ℕ Global} (λ k. k.items) index c.args.name.now index.entries
+    ∙ ap (λ t. known_in t c.args.name.now) c.self.view_is)
