@@ -4,19 +4,19 @@ use Rattle.std.specs.Prelude.{flat_map, find}
 use Rattle.std.specs.List.{list_any}
 use Rattle.std.proofs.lemmas.List.Folds.{list_any-append}
 use Rattle.explicit_form.specs.Fit.{are_new}
-use Rattle.explicit_form.specs.declared.unread.Unread.{Unread}
-use Rattle.explicit_form.specs.declared.unread.Unread.TheVariants as fail
+use Rattle.rw_base.specs.Answers.{Unread}
+use Rattle.rw_base.specs.declared.fail.Failure.TheVariants as fail
 use Rattle.explicit_form.specs.Judged.{Refuses}
-use Rattle.explicit_form.specs.Read.{Fails}
+use Rattle.rw_base.specs.Answers.{Fails}
 
 -- a refusal's cause is one of the whole
 pub refused_on : (e : Unread) (a b : Bool) → Refuses e a → (a ≡ false → b ≡ false) → Refuses e b
-refused_on fail.NotOfTheForm a b h f = f h
+refused_on (fail.Refused (record {})) a b h f = f h
 refused_on fail.OutOfMemory a b h f = tt
 
 -- a refusal without its cause
 pub not_refused : {Y : Type 0} (e : Unread) (b : Bool) (found : Option Y) → Refuses e b → b ≡ true → Fails e found
-not_refused fail.NotOfTheForm b found h k = absurd (cc)
+not_refused (fail.Refused (record {})) b found h k = absurd (cc)
 not_refused fail.OutOfMemory b found h k = tt
 
 pub both : (a b : Bool) → (a && b) ≡ true → (a ≡ true) × (b ≡ true)

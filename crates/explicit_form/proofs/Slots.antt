@@ -4,8 +4,8 @@ use Rattle.std.specs.Prelude.{find, position, ok_or, Result}
 use Rattle.std.specs.List.{list_any, position_or_len}
 use Rattle.std.specs.Option.{option_map}
 use Rattle.std.proofs.lemmas.Bool.Decides.{nat_tests}
-use Rattle.explicit_form.specs.declared.unread.Unread.{Unread}
-use Rattle.explicit_form.specs.declared.unread.Unread.TheVariants as fail
+use Rattle.rw_base.specs.Answers.{Unread}
+use Rattle.rw_base.specs.declared.fail.Failure.TheVariants as fail
 use Rattle.explicit_form.specs.Judged.{Judges}
 use Rattle.explicit_form.specs.Fit.{entry_for, entries_from}
 
@@ -29,11 +29,11 @@ any_within p (x ∷ xs) =
 pub place_within : {A : Type 0} (p : A → Bool) (xs : List A) → list_any p xs ≡ true → position_or_len p xs < length xs
 place_within p xs h = within_of (position_or_len p xs) (length xs) (sym (any_within p xs) ∙ h)
 
-judged_by : (r : Result ℕ Unread) (any b : Bool) (i : ℕ) → r ≡ ok_or (cond b (Some i) None) fail.NotOfTheForm → any ≡ b → Judges r any (λ j. j ≡ i)
+judged_by : (r : Result ℕ Unread) (any b : Bool) (i : ℕ) → r ≡ ok_or (cond b (Some i) None) (fail.Refused (record {})) → any ≡ b → Judges r any (λ j. j ≡ i)
 judged_by r any true i e h = rw e (h, refl)
 judged_by r any false i e h = rw e h
 
-pub place_judged : {A : Type 0} (p : A → Bool) (xs : List A) (r : Result ℕ Unread) → r ≡ ok_or (position p xs) fail.NotOfTheForm → Judges r (list_any p xs) (λ j. j ≡ position_or_len p xs)
+pub place_judged : {A : Type 0} (p : A → Bool) (xs : List A) (r : Result ℕ Unread) → r ≡ ok_or (position p xs) (fail.Refused (record {})) → Judges r (list_any p xs) (λ j. j ≡ position_or_len p xs)
 place_judged p xs r e = judged_by r (list_any p xs) (nat_lt (position_or_len p xs) (length xs)) (position_or_len p xs) e (any_within p xs)
 
 pub length-entries : (first n : ℕ) (es : List (ℕ × ℕ)) → length (entries_from first n es) ≡ n

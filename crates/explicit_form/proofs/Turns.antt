@@ -1,9 +1,10 @@
 -- One turn of each kind of loop.
 use Rattle.std.proofs.Common.{◌≡◌, ℕ, zero, suc, ◌+◌, true, false, List, [], ◌∷◌, ◌++◌, drop, Option, Some, None, refl, sym, ◌∙◌, ap, append_assoc, append-nil, add-one, ◌⊎◌, inl, inr}
-use Rattle.explicit_form.specs.declared.unread.Unread.{Unread}
-use Rattle.explicit_form.specs.declared.unread.Unread.TheVariants as fail
+use Rattle.rw_base.specs.Answers.{Unread}
+use Rattle.rw_base.specs.declared.fail.Failure.TheVariants as fail
 use Rattle.explicit_form.specs.Words.{Word, sees}
-use Rattle.explicit_form.specs.Read.{Read, ◌>>=◌, Fails, separated_at, many_at}
+use Rattle.rw_base.specs.Answers.{Fails}
+use Rattle.explicit_form.specs.Read.{Read, ◌>>=◌, separated_at, many_at}
 
 -- what is read from here on, behind what was read before
 abbrev pub with_front : {A : Type 0} → List A → Read (List A) → Read (List A)
@@ -13,11 +14,6 @@ with_front front (Some p) = Some (front ++ p.0, p.1)
 pub front_again : {A : Type 0} (front : List A) (a : A) (r : Read (List A)) → with_front (front ++ a ∷ []) r ≡ with_front front (r >>= λ q. Some (a ∷ q.0, q.1))
 front_again front a None = refl
 front_again front a (Some q) = rw append_assoc
-
--- a fault at a part is a fault of the whole
-pub fails_on : {X Y : Type 0} (e : Unread) (part : Option X) (whole : Option Y) → Fails e part → (part ≡ None → whole ≡ None) → Fails e whole
-fails_on fail.OutOfMemory part whole h f = tt
-fails_on fail.NotOfTheForm part whole h f = f h
 
 module _ {A : Type 0} (between : Word) (one : List Word → Read A) where
   pub separated_last : (n m : ℕ) (ts : List Word) (front : List A) (a : A) (rest : List Word) → n ≡ m + 1 → one ts ≡ Some (a, rest) → sees between rest ≡ false

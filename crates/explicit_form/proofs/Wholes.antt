@@ -6,13 +6,14 @@ use Rattle.rw_lex.specs.declared.token.Token.{Token}
 use Rattle.register_machine.specs.declared.machine.Machine.{Machine}
 use Rattle.register_machine.specs.Machine.{IsMachine}
 use Rattle.explicit_form.specs.declared.form.Form.{Form}
-use Rattle.explicit_form.specs.declared.unread.Unread.{Unread}
-use Rattle.explicit_form.specs.declared.unread.Unread.TheVariants as fail
+use Rattle.rw_base.specs.Answers.{Unread}
+use Rattle.rw_base.specs.declared.fail.Failure.TheVariants as fail
 use Rattle.explicit_form.specs.Words.{word_of, words_of}
 use Rattle.explicit_form.specs.Grammar.{IsForm}
 use Rattle.explicit_form.specs.Fit.{is_fit, machine_of}
 use Rattle.explicit_form.specs.Explicit.{HasTokens, Spells}
-use Rattle.explicit_form.specs.Read.{Gives, form_at}
+use Rattle.rw_base.specs.Answers.{Gives}
+use Rattle.explicit_form.specs.Read.{form_at}
 use Rattle.explicit_form.proofs.Forms.{form_sound, form_complete}
 use Rattle.explicit_form.proofs.Machines.{machine_fits}
 use Rattle.explicit_form.proofs.Sizes.{tokens_few}
@@ -35,9 +36,9 @@ nothing_read : (source : List ℕ) (tokens : List Token) (form : Form) → HasOn
 nothing_read source tokens form only s none = let some = tree_read source tokens form only s in cc
 
 pub tree_refused : (source : List ℕ) (tokens : List Token) (r : Result Form Unread) → Gives (λ x. x) r (form_at (words_of tokens)) → HasOnly source tokens
-    → IsErrOf r fail.NotOfTheForm → (form : Form) → Spells source form → ⊥
+    → IsErrOf r (fail.Refused (record {})) → (form : Form) → Spells source form → ⊥
 tree_refused source tokens (Ok found) g only e form s = cc
-tree_refused source tokens (Err fail.NotOfTheForm) g only e form s = nothing_read source tokens form only s g
+tree_refused source tokens (Err (fail.Refused (record {}))) g only e form s = nothing_read source tokens form only s g
 tree_refused source tokens (Err fail.OutOfMemory) g only e form s = cc
 
 pub tree_only : (source : List ℕ) (tokens : List Token) (r : Result Form Unread) → Gives (λ x. x) r (form_at (words_of tokens)) → HasOnly source tokens

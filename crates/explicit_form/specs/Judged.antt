@@ -1,7 +1,7 @@
 -- What the calls that judge names promise each other.
 use Rattle.std.specs.Prelude.{ℕ, Bool, true, false, List, ◌≡◌, Result, Ok, Err}
-use Rattle.explicit_form.specs.declared.unread.Unread.{Unread}
-use Rattle.explicit_form.specs.declared.unread.Unread.TheVariants as fail
+use Rattle.rw_base.specs.Answers.{Unread}
+use Rattle.rw_base.specs.declared.fail.Failure.TheVariants as fail
 use Rattle.explicit_form.specs.declared.taken.Kind.{Kind}
 use Rattle.explicit_form.specs.declared.taken.Kind.TheVariants.{Data, Constructor, Function}
 use Rattle.explicit_form.specs.Fit.{taken_types, taken_constructors, taken_functions}
@@ -14,7 +14,7 @@ taken_of Function = taken_functions
 
 -- a refusal has its cause; nothing is said where memory ran out
 abbrev pub Refuses : Unread → Bool → Type 0
-Refuses fail.NotOfTheForm fits = fits ≡ false
+Refuses (fail.Refused (record {})) fits = fits ≡ false
 Refuses fail.OutOfMemory fits = Unit {0}
 
 -- the call finds a value exactly where the test passes, and the value is right, unless memory ran out

@@ -8,8 +8,8 @@ use Rattle.explicit_form.specs.declared.form.Ports.{Ports}
 use Rattle.explicit_form.specs.declared.form.Arm.{Arm}
 use Rattle.explicit_form.specs.declared.form.Function.{Function}
 use Rattle.explicit_form.specs.declared.form.Form.{Form}
-use Rattle.explicit_form.specs.declared.unread.Unread.{Unread}
-use Rattle.explicit_form.specs.declared.unread.Unread.TheVariants as fail
+use Rattle.rw_base.specs.Answers.{Unread}
+use Rattle.rw_base.specs.declared.fail.Failure.TheVariants as fail
 
 -- a value and the words after it, or nothing
 abbrev pub Read : Type 0 → Type 0
@@ -19,15 +19,6 @@ infixl 10 ◌>>=◌
 abbrev pub ◌>>=◌ : {A B : Type 0} → Option A → (A → Option B) → Option B
 None >>= f = None
 (Some x) >>= f = f x
-
--- what a function of the code returned, seen by view, is what reading gives, unless memory ran out
-abbrev pub Fails : {Y : Type 0} → Unread → Option Y → Type 0
-Fails fail.OutOfMemory read = Unit {0}
-Fails fail.NotOfTheForm read = read ≡ None
-
-abbrev pub Gives : {X Y : Type 0} → (X → Y) → Result X Unread → Option Y → Type 0
-Gives view (Ok x) read = read ≡ Some (view x)
-Gives view (Err e) read = Fails e read
 
 -- the words after this one
 unfoldable pub after : Word → List Word → Option (List Word)

@@ -4,13 +4,13 @@ ghost use Rattle.std.specs.List.{list_all};
 ghost use Rattle.explicit_form.specs.Fit as fit;
 ghost use Rattle.explicit_form.specs.Fit.{is_among, is_fit, machine_of, state_of, fits_function, fits_arm, entry_of, entries_from, are_new};
 ghost use Rattle.explicit_form.specs.Judged.{Judges};
+ghost use Rattle.rw_base.specs.declared.fail.Failure.TheVariants as fail;
 
-use crate::Unread;
 use crate::form::{Arm, Form, Function};
 use crate::judge::{constructors, function_names, judge_constructors, judge_types};
 use crate::names::Names;
 use register_machine::{Machine, State};
-use rw_base::Name;
+use rw_base::{Name, NotSpelled, Unread};
 use sqlite_items::Items;
 use std::alloc::Global;
 
@@ -27,7 +27,7 @@ fn place(names: &Names, name: &Name) -> Result<usize, Unread>
     ensures found { Judges result (is_among name.now names.now) (λ place. place ≡ fit.place_of names.now name.now) }
     ensures within { IfOk result (λ place. place < length names.now) }
 {
-    names.place(name).ok_or(Unread::NotOfTheForm)
+    names.place(name).ok_or(Unread::Refused(NotSpelled))
 }
 
 // What one more alternative leads to, in the slot of its input.
@@ -40,7 +40,7 @@ fn add_arm(tables: &Tables, slots: &mut [Option<usize>], arm: &Arm) -> Result<()
     let input = place(&tables.inputs, &arm.constructor)?;
     let target = place(&tables.functions, &arm.target)?;
     if slots[input].is_some() {
-        return Err(Unread::NotOfTheForm);
+        return Err(Unread::Refused(NotSpelled));
     }
     slots[input] = Some(target);
     Ok(())
@@ -66,7 +66,7 @@ fn filled(alloc: Global, slots: &[Option<usize>]) -> Result<Items<usize>, Unread
     let mut next = Items::new(alloc);
     for slot in slots {
         let Some(target) = *slot else {
-            return Err(Unread::NotOfTheForm);
+            return Err(Unread::Refused(NotSpelled));
         };
         next.push(target)?;
     }
@@ -86,7 +86,7 @@ fn state(alloc: Global, tables: &Tables, function: &Function) -> Result<State, U
         (λ state. state ≡ state_of tables.now.inputs tables.now.outputs tables.now.functions function.now) }
 {
     if hides(&tables.functions, &function.bound) {
-        return Err(Unread::NotOfTheForm);
+        return Err(Unread::Refused(NotSpelled));
     }
     let shown = place(&tables.outputs, &function.shown)?;
     let slots = slots(alloc, tables, function.arms.as_slice())?;
@@ -110,7 +110,7 @@ fn states(alloc: Global, tables: &Tables, functions: &[Function]) -> Result<Item
 /// names of the source aren't in order.
 pub fn machine(alloc: Global, form: &Form) -> Result<Machine, Unread>
     ensures found { IfOk result (λ m. (is_fit form.now ≡ true) × (m ≡ machine_of form.now)) }
-    ensures refused { IsErrOf result Unread.NotOfTheForm → is_fit form.now ≡ false }
+    ensures refused { IsErrOf result (fail.Refused (record {})) → is_fit form.now ≡ false }
 {
     let datas = form.datas.as_slice();
     judge_types(alloc, datas)?;

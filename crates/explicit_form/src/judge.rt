@@ -2,13 +2,12 @@
 ghost use Rattle.std.specs.Prelude.{◌≡◌, ◌++◌, ◌∷◌, [], true, not, map, flat_map, IfOk, codes, find, bytes_eq, option_copied};
 ghost use Rattle.explicit_form.specs.Fit.{is_among, are_free, taken_types, taken_constructors, constructors_of, names_of, fits_datas, fits_names};
 ghost use Rattle.explicit_form.specs.Judged.{Judges, taken_of};
-ghost use Rattle.explicit_form.specs.Read.{Gives};
+ghost use Rattle.rw_base.specs.Answers.{Gives};
 
-use crate::Unread;
 use crate::form::{Data, Function};
 use crate::names::Names;
 use crate::taken::{Kind, is_taken};
-use rw_base::{Name, OutOfMemory};
+use rw_base::{Name, NotSpelled, OutOfMemory, Unread};
 use std::alloc::Global;
 
 const MAX_FUNCTIONS: usize = 1024;
@@ -18,10 +17,10 @@ fn add_new(alloc: Global, kind: Kind, seen: &mut Names, name: &Name) -> Result<(
     ensures { Judges result (not (is_among name.now (taken_of kind ++ seen.old))) (λ _. seen.new ≡ seen.old ++ name.now ∷ []) }
 {
     if is_taken(kind, name.as_slice()) {
-        return Err(Unread::NotOfTheForm);
+        return Err(Unread::Refused(NotSpelled));
     }
     if !seen.add(name.copied(alloc)?)? {
-        return Err(Unread::NotOfTheForm);
+        return Err(Unread::Refused(NotSpelled));
     }
     Ok(())
 }
@@ -68,7 +67,7 @@ pub fn function_names(alloc: Global, functions: &[Function]) -> Result<Names, Un
     ensures { Judges result (fits_names (names_of functions.now)) (λ names. names ≡ names_of functions.now) }
 {
     if functions.len() > MAX_FUNCTIONS {
-        return Err(Unread::NotOfTheForm);
+        return Err(Unread::Refused(NotSpelled));
     }
     let mut names = Names::new(alloc);
     for function in functions {
@@ -108,7 +107,7 @@ pub fn constructors(alloc: Global, datas: &[Data], name: &Name) -> Result<Names,
         return Ok(booleans(alloc)?);
     }
     let Some(data) = declared(datas, name) else {
-        return Err(Unread::NotOfTheForm);
+        return Err(Unread::Refused(NotSpelled));
     };
     let mut all = Names::new(alloc);
     add_all(

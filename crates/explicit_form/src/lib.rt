@@ -13,10 +13,8 @@ mod names;
 mod read;
 mod source;
 mod taken;
-mod unread;
 mod words;
 
 pub use form::{Arm, Data, Form, Function, Ports};
 pub use law::compiled_law;
 pub use source::{compile, read_machine};
-pub use unread::Unread;

@@ -3,12 +3,11 @@
 ghost use Rattle.std.specs.Prelude.{◌≡◌, ◌++◌, ◌∷◌, [], OnOk};
 ghost use Rattle.explicit_form.specs.Words.{words_of};
 ghost use Rattle.explicit_form.specs.Read as reads;
-ghost use Rattle.explicit_form.specs.Read.{Gives};
+ghost use Rattle.rw_base.specs.Answers.{Gives};
 
-use crate::Unread;
 use crate::form::{Arm, Data, Form, Function, Ports};
 use crate::words::{after, name, rest_of, sees};
-use rw_base::{Name, OutOfMemory};
+use rw_base::{Name, NotSpelled, OutOfMemory, Unread};
 use rw_lex::{Token, TokenKind};
 use sqlite_items::Items;
 use std::alloc::Global;
@@ -28,7 +27,7 @@ fn read_constructors(alloc: Global, tokens: &[Token]) -> Result<(Items<Name>, &[
         }
         rest = rest_of(behind);
     }
-    Err(Unread::NotOfTheForm)
+    Err(Unread::Refused(NotSpelled))
 }
 
 // One item more.
@@ -163,7 +162,7 @@ fn read_arms(alloc: Global, tokens: &[Token]) -> Result<(Items<Arm>, &[Token]), 
         }
         rest = rest_of(behind);
     }
-    Err(Unread::NotOfTheForm)
+    Err(Unread::Refused(NotSpelled))
 }
 
 // `;` v `::` ty `;` v `=`
@@ -277,7 +276,7 @@ fn ended(form: Form, tokens: &[Token]) -> Result<Form, Unread>
     if tokens.is_empty() && 0 < form.functions.len() {
         Ok(form)
     } else {
-        Err(Unread::NotOfTheForm)
+        Err(Unread::Refused(NotSpelled))
     }
 }
 

@@ -7,14 +7,14 @@ ghost use Rattle.explicit_form.specs.Right.{IsRight};
 ghost use Rattle.explicit_form.specs.declared.form.Form.{Form};
 ghost use Rattle.register_machine.specs.Machine.{IsMachine};
 ghost use Rattle.explicit_form.specs.Explicit as explicit;
+ghost use Rattle.rw_base.specs.declared.fail.Failure.TheVariants as fail;
 
-use crate::Unread;
 use crate::fit::machine;
 use crate::form::Form;
 use crate::law::compiled_law;
 use crate::read::read_form;
 use register_machine::{Machine, design};
-use rw_base::Fail;
+use rw_base::{Fail, NotSpelled, Unread};
 use rw_lex::{Token, lex};
 use std::alloc::{AllocError, Global};
 use vhdl_print::print;
@@ -62,28 +62,28 @@ fn has_no_comment(alloc: Global, source: &[u8], tokens: &[Token]) -> Result<bool
 // The tokens of a source without comments.
 fn bare_tokens(alloc: Global, source: &[u8]) -> Result<Vec<Token>, Unread>
     ensures found { IfOk result (λ tokens. HasTokens source.now tokens.items) }
-    ensures refused { IsErrOf result Unread.NotOfTheForm → (tokens : List Token) → HasTokens source.now tokens → ⊥ }
+    ensures refused { IsErrOf result (fail.Refused (record {})) → (tokens : List Token) → HasTokens source.now tokens → ⊥ }
     ensures only { IfOk result (λ found. (tokens : List Token) → HasTokens source.now tokens → tokens ≡ found.items) }
 {
     if source.len() > MOST_BYTES {
-        return Err(Unread::NotOfTheForm);
+        return Err(Unread::Refused(NotSpelled));
     }
     let tokens = match lex(alloc, source) {
         Ok(tokens) => tokens,
-        Err(Fail::Refused(_)) => return Err(Unread::NotOfTheForm),
+        Err(Fail::Refused(_)) => return Err(Unread::Refused(NotSpelled)),
         Err(Fail::OutOfMemory) => return Err(Unread::OutOfMemory),
     };
     if has_no_comment(alloc, source, &tokens)? {
         Ok(tokens)
     } else {
-        Err(Unread::NotOfTheForm)
+        Err(Unread::Refused(NotSpelled))
     }
 }
 
 // The tree that the tokens of a source spell.
 fn read_tree(alloc: Global, source: &[u8]) -> Result<Form, Unread>
     ensures found { IfOk result (λ form. Spells source.now form) }
-    ensures refused { IsErrOf result Unread.NotOfTheForm → (form : Form) → Spells source.now form → ⊥ }
+    ensures refused { IsErrOf result (fail.Refused (record {})) → (form : Form) → Spells source.now form → ⊥ }
     ensures only { IfOk result (λ found. (form : Form) → Spells source.now form → form ≡ found) }
 {
     let tokens = bare_tokens(alloc, source)?;
@@ -97,7 +97,7 @@ fn read_tree(alloc: Global, source: &[u8]) -> Result<Form, Unread>
 /// that are not in order.
 pub fn read_machine(alloc: Global, source: &[u8]) -> Result<Machine, Unread>
     ensures found { IfOk result (λ m. IsMachineOfSource source.now m) }
-    ensures refused { IsErrOf result Unread.NotOfTheForm → IsExplicitSource source.now → ⊥ }
+    ensures refused { IsErrOf result (fail.Refused (record {})) → IsExplicitSource source.now → ⊥ }
     ensures fits { IfOk result IsMachine }
 {
     let form = read_tree(alloc, source)?;
@@ -113,7 +113,7 @@ pub fn read_machine(alloc: Global, source: &[u8]) -> Result<Machine, Unread>
 pub fn compile(alloc: Global, source: &[u8]) -> Result<Vec<u8>, Unread>
     ensures compiled { IfOk result (λ text. IsCompiled source.now text.items) }
     ensures right { IfOk result (λ text. IsRight source.now text.items) }
-    ensures refused { IsErrOf result Unread.NotOfTheForm → IsExplicitSource source.now → ⊥ }
+    ensures refused { IsErrOf result (fail.Refused (record {})) → IsExplicitSource source.now → ⊥ }
 {
     let machine = read_machine(alloc, source)?;
     let design = design(alloc, &machine)?;

@@ -3,10 +3,9 @@ ghost use Rattle.std.specs.Prelude.{◌≡◌, drop};
 ghost use Rattle.explicit_form.specs.Words.{words_of};
 ghost use Rattle.explicit_form.specs.Words as words;
 ghost use Rattle.explicit_form.specs.Read as reads;
-ghost use Rattle.explicit_form.specs.Read.{Gives};
+ghost use Rattle.rw_base.specs.Answers.{Gives};
 
-use crate::Unread;
-use rw_base::Name;
+use rw_base::{Name, NotSpelled, Unread};
 use rw_lex::{Token, TokenKind};
 
 #[tactic(auto, unfolding(crate::specs::Words::same_kind))]
@@ -44,7 +43,7 @@ pub fn after<'a>(tokens: &'a [Token], kind: TokenKind, text: &[u8]) -> Result<&'
     if sees(tokens, kind, text) {
         Ok(rest_of(tokens))
     } else {
-        Err(Unread::NotOfTheForm)
+        Err(Unread::Refused(NotSpelled))
     }
 }
 
@@ -54,6 +53,6 @@ pub fn name(tokens: &[Token], kind: TokenKind) -> Result<(&Name, &[Token]), Unre
 {
     match tokens {
         [token, rest @ ..] if same_kind(token.kind, kind) => Ok((&token.text, rest)),
-        _ => Err(Unread::NotOfTheForm),
+        _ => Err(Unread::Refused(NotSpelled)),
     }
 }

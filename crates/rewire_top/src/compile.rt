@@ -7,8 +7,7 @@ ghost use Rattle.rewire_top.specs.Commands.{HoldsAll, Compile};
 ghost use Rattle.rewire_top.specs.Answers.{Compiles, CompilesInPart, IsRefusedAs, IsLater};
 
 use crate::Status;
-use explicit_form::Unread;
-use rw_base::{DeviceError, Place, Rule, Store};
+use rw_base::{DeviceError, Place, Rule, Store, Unread};
 use std::alloc::Global;
 
 // One byte more than a source may have.
@@ -35,7 +34,7 @@ pub fn compile<S: Store>(alloc: Global, file: &str, target: &str, store: &mut S)
         Ok(source) => source,
     };
     let text = match explicit_form::compile(alloc, &source) {
-        Err(Unread::NotOfTheForm) => return Status::Refused(Rule::E00, Place::START),
+        Err(Unread::Refused(_)) => return Status::Refused(Rule::E00, Place::START),
         Err(Unread::OutOfMemory) => return Status::OutOfMemory,
         Ok(text) => text,
     };

@@ -1,8 +1,8 @@
-// Why a call of the front gives no answer: the source breaks a rule at a place, or memory ran out.
-ghost use Rattle.rw_base.specs.declared.fail.Fail.TheVariants.{OutOfMemory as WantOfMemory};
+// Why a call gives no answer: something is refused, or memory ran out.
+ghost use Rattle.rw_base.specs.declared.fail.Failure.TheVariants.{OutOfMemory as WantOfMemory};
 ghost use Rattle.std.specs.Prelude.{◌≡◌};
 
-use crate::{Place, Rule};
+use crate::{Place, Rule, VRule};
 use std::alloc::{AllocError, AllocFailed};
 
 /// Memory ran out.
@@ -16,12 +16,25 @@ pub struct Refusal {
     pub place: Place,
 }
 
-/// Why a call of the front gives no answer.
+/// Nothing is spelled so.
 #[derive(Clone, Copy, Debug, PartialEq, Eq)]
-pub enum Fail {
-    Refused(Refusal),
+pub struct NotSpelled;
+
+/// Why a call gives no answer: it refuses, for this reason, or memory ran out.
+#[derive(Clone, Copy, Debug, PartialEq, Eq)]
+pub enum Failure<R> {
+    Refused(R),
     OutOfMemory,
 }
+
+/// Why a call of the front gives no answer: the source breaks a rule at a place, or memory ran out.
+pub type Fail = Failure<Refusal>;
+
+/// Why a design or a text isn't taken: it breaks this rule, and none before it, or memory ran out.
+pub type VFail = Failure<VRule>;
+
+/// Why a reader gives nothing: nothing is spelled so, or memory ran out.
+pub type Unread = Failure<NotSpelled>;
 
 impl From<AllocError> for OutOfMemory {
     ghost from_gives = { λ _ e. e ≡ record {} };
@@ -39,36 +52,36 @@ impl<T: Drop> From<AllocFailed<T>> for OutOfMemory {
     }
 }
 
-impl From<Refusal> for Fail {
-    ghost use Rattle.rw_base.specs.declared.fail.Fail.TheVariants.{Refused};
+impl From<Refusal> for Failure<Refusal> {
+    ghost use Rattle.rw_base.specs.declared.fail.Failure.TheVariants.{Refused};
 
     ghost from_gives = { λ refusal e. e ≡ Refused refusal };
 
-    fn from(refusal: Refusal) -> Fail {
-        Fail::Refused(refusal)
+    fn from(refusal: Refusal) -> Failure<Refusal> {
+        Failure::Refused(refusal)
     }
 }
 
-impl From<OutOfMemory> for Fail {
+impl<R> From<OutOfMemory> for Failure<R> {
     ghost from_gives = { λ _ e. e ≡ WantOfMemory };
 
-    fn from(_error: OutOfMemory) -> Fail {
-        Fail::OutOfMemory
+    fn from(_error: OutOfMemory) -> Failure<R> {
+        Failure::OutOfMemory
     }
 }
 
-impl From<AllocError> for Fail {
+impl<R> From<AllocError> for Failure<R> {
     ghost from_gives = { λ _ e. e ≡ WantOfMemory };
 
-    fn from(_error: AllocError) -> Fail {
-        Fail::OutOfMemory
+    fn from(_error: AllocError) -> Failure<R> {
+        Failure::OutOfMemory
     }
 }
 
-impl<T: Drop> From<AllocFailed<T>> for Fail {
+impl<R, T: Drop> From<AllocFailed<T>> for Failure<R> {
     ghost from_gives = { λ _ e. e ≡ WantOfMemory };
 
-    fn from(_error: AllocFailed<T>) -> Fail {
-        Fail::OutOfMemory
+    fn from(_error: AllocFailed<T>) -> Failure<R> {
+        Failure::OutOfMemory
     }
 }

@@ -18,7 +18,7 @@ mod text;
 
 pub use bit::Bit9;
 pub use edge::{FileStore, StreamSink};
-pub use fail::{Fail, OutOfMemory, Refusal};
+pub use fail::{Fail, Failure, NotSpelled, OutOfMemory, Refusal, Unread, VFail};
 pub use memory::{MemorySink, MemoryStore};
 pub use name::Name;
 pub use place::{Place, Span, place_of};

@@ -3,8 +3,8 @@ use Rattle.std.proofs.Common.{◌≡◌, ◌∙◌, refl, sym, ap, subst, List, 
 use Rattle.std.specs.List.{AllByRecursion}
 use Rattle.rw_base.specs.declared.place.Place.{Place}
 use Rattle.rw_base.specs.declared.fail.Refusal.{Refusal}
-use Rattle.rw_base.specs.declared.fail.Fail.{Fail}
-use Rattle.rw_base.specs.declared.fail.Fail.TheVariants.{Refused}
+use Rattle.rw_base.specs.Answers.{Fail}
+use Rattle.rw_base.specs.declared.fail.Failure.TheVariants.{Refused}
 use Rattle.rw_scope_rules.specs.Names.{is_before, earlier, earliest}
 use Rattle.rw_cover_matrix.specs.Values.{Shapes, no_shapes, more_shapes, opaque, data_of, one_choice, more_choices}
 use Rattle.rw_cover_matrix.specs.Matching.{PlainPattern, constructed, no_patterns, AreRowsOf}

@@ -2,8 +2,8 @@
 use Rattle.std.specs.Prelude.{◌≡◌, ◌⊎◌, ◌∷◌, ◌++◌, List, false, Option, Result, Err}
 use Rattle.std.specs.List.{AllByRecursion}
 use Rattle.rw_base.specs.declared.place.Place.{Place}
-use Rattle.rw_base.specs.declared.fail.Fail.{Fail}
-use Rattle.rw_base.specs.declared.fail.Fail.TheVariants.{OutOfMemory}
+use Rattle.rw_base.specs.Answers.{Fail}
+use Rattle.rw_base.specs.declared.fail.Failure.TheVariants.{OutOfMemory}
 use Rattle.rw_scope_rules.specs.Names.{earliest}
 use Rattle.rw_cover_matrix.specs.Values.{Shapes, Values, AreValues}
 use Rattle.rw_cover_matrix.specs.Matching.{PlainPattern, AreRowsOf}
@@ -22,10 +22,6 @@ HaveTypes rows = (columns : Shapes) × AreRowsOf rows columns
 
 abbrev pub AllHaveTypes : List Group → Type 0
 AllHaveTypes groups = AllByRecursion (λ g. HaveTypes g.rows) groups
-
--- what is given is the answer, or memory ran out
-abbrev pub IsUnlessMemory : Result Unit Fail → Result Unit Fail → Type 0
-IsUnlessMemory answer given = (given ≡ answer) ⊎ (given ≡ Err OutOfMemory)
 
 -- == What that means for values ==
 

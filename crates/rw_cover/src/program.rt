@@ -4,11 +4,12 @@ ghost use Rattle.std.specs.List.{AllByRecursion, flat_map};
 ghost use Rattle.rw_base.specs.declared.place.Place.{Place as PlainPlace};
 ghost use Rattle.rw_base.specs.declared.rule.Rule.TheVariants.{E14};
 ghost use Rattle.rw_base.specs.declared.fail.Refusal.{Refusal as PlainRefusal};
-ghost use Rattle.rw_base.specs.declared.fail.Fail.TheVariants as fail;
+ghost use Rattle.rw_base.specs.declared.fail.Failure.TheVariants as fail;
 ghost use Rattle.rw_tree.specs.Declarations.{declaration, plain_program};
 ghost use Rattle.rw_scope_nodes.specs.Plain.{plain_nodes};
 ghost use Rattle.rw_cover.specs.Coverage.{AreUncovered, groups_of, node_group};
-ghost use Rattle.rw_cover.specs.Correct.{AllHaveTypes, IsCovered, IsFirst, IsUnlessMemory, LeaveOverAt};
+ghost use Rattle.rw_base.specs.Answers.{IsUnlessMemory};
+ghost use Rattle.rw_cover.specs.Correct.{AllHaveTypes, IsCovered, IsFirst, LeaveOverAt};
 ghost use Rattle.rw_cover.specs.Walk.{own_groups};
 
 use crate::group::{node_place, own_place};

@@ -1,7 +1,7 @@
 -- A stage is exact where its parts are.
 use Rattle.std.proofs.Common.{◌≡◌, inl, inr, Result, Ok, Err, ap, subst}
-use Rattle.rw_base.specs.declared.fail.Fail.{Fail}
-use Rattle.rw_base.specs.declared.fail.Fail.TheVariants as fail
+use Rattle.rw_base.specs.Answers.{Fail}
+use Rattle.rw_base.specs.declared.fail.Failure.TheVariants as fail
 use Rattle.rw_base.specs.declared.fail.Refusal.{Refusal}
 use Rattle.rw_front.specs.Stages.{Stage, ◌then◌, IsExactAt, Answers}
 

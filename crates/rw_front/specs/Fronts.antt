@@ -1,8 +1,8 @@
 -- What the front answers of a source.
 use Rattle.std.specs.Prelude.{◌≡◌, ℕ, List, map, Result, Ok, Err}
 use Rattle.rw_base.specs.declared.place.Span.{Span}
-use Rattle.rw_base.specs.declared.fail.Fail.{Fail}
-use Rattle.rw_base.specs.declared.fail.Fail.TheVariants as fail
+use Rattle.rw_base.specs.Answers.{Fail}
+use Rattle.rw_base.specs.declared.fail.Failure.TheVariants as fail
 use Rattle.rw_tree.specs.Declarations.{PlainProgram, plain_program}
 use Rattle.rw_scope_rules.specs.Bindings.{bound_program}
 use Rattle.rw_types_rules.specs.Schemes.{world_of}

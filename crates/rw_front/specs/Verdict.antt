@@ -3,8 +3,8 @@ use Rattle.std.specs.Prelude.{◌≡◌, ◌⊎◌, ◌≤◌, ◌<◌, ◌++◌
 use Rattle.rw_base.specs.declared.place.Place.{Place}
 use Rattle.rw_base.specs.declared.place.Span.{Span}
 use Rattle.rw_base.specs.declared.rule.Rule.TheVariants.{E01, E05, E13, E14, E15, E16}
-use Rattle.rw_base.specs.declared.fail.Fail.{Fail}
-use Rattle.rw_base.specs.declared.fail.Fail.TheVariants as fail
+use Rattle.rw_base.specs.Answers.{Fail}
+use Rattle.rw_base.specs.declared.fail.Failure.TheVariants as fail
 use Rattle.rw_base.specs.declared.fail.Refusal.{Refusal}
 use Rattle.rw_tree.specs.declared.program.Program.{Program}
 use Rattle.rw_tree.specs.Declarations.{Declaration, function_declaration, PlainProgram, plain_program}

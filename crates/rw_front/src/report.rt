@@ -1,6 +1,6 @@
 // Where a refusal is reported: a place in the prelude is that of `start`.
 ghost use Rattle.std.specs.Prelude.{◌≡◌, map, Ok, Err};
-ghost use Rattle.rw_base.specs.declared.fail.Fail.TheVariants as fail;
+ghost use Rattle.rw_base.specs.declared.fail.Failure.TheVariants as fail;
 ghost use Rattle.rw_tree.specs.Declarations.{declaration, plain_program};
 ghost use Rattle.rw_front.specs.Verdict.{place_of_start, reported};
 

@@ -8,11 +8,11 @@ use Rattle.std.proofs.Math.Seq.{drop-cons}
 use Rattle.std.proofs.lemmas.Grind.{common_steps}
 use Rattle.rw_base.specs.declared.place.Place.{Place}
 use Rattle.rw_base.specs.declared.fail.Refusal.{Refusal}
-use Rattle.rw_base.specs.declared.fail.Fail.{Fail}
-use Rattle.rw_base.specs.declared.fail.Fail.TheVariants as fail
+use Rattle.rw_base.specs.Answers.{Fail}
+use Rattle.rw_base.specs.declared.fail.Failure.TheVariants as fail
 use Rattle.rw_base.specs.declared.rule.Rule.TheVariants.{E04}
 use Rattle.rw_lex.specs.declared.token.Token.{Token}
-use Rattle.rw_lex.specs.Tokens.{Answers}
+use Rattle.rw_base.specs.Answers.{Answers}
 use Rattle.rw_layout.specs.declared.entry.Opener.{Opener}
 use Rattle.rw_layout.specs.declared.entry.Entry.{Entry}
 use Rattle.rw_layout.specs.declared.role.Role.{Role}

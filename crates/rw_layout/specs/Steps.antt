@@ -1,8 +1,8 @@
 -- What the functions inside promise each other.
 use Rattle.std.specs.Prelude.{◌≡◌, ℕ, Bool, true, false, List, ◌++◌, Option, Some, None, Result, Ok, Err}
 use Rattle.rw_base.specs.declared.place.Place.{Place}
-use Rattle.rw_base.specs.declared.fail.Fail.{Fail}
-use Rattle.rw_base.specs.declared.fail.Fail.TheVariants as fail
+use Rattle.rw_base.specs.Answers.{Fail}
+use Rattle.rw_base.specs.declared.fail.Failure.TheVariants as fail
 use Rattle.rw_lex.specs.declared.token.Token.{Token}
 use Rattle.rw_layout.specs.declared.entry.Opener.TheVariants as o
 use Rattle.rw_layout.specs.declared.entry.Entry.{Entry}

@@ -1,5 +1,5 @@
 // The layout of a whole source. At each turn what was emitted, put before what is to come, is the whole.
-ghost use Rattle.rw_lex.specs.Tokens.{Answers};
+ghost use Rattle.rw_base.specs.Answers.{Answers};
 ghost use Rattle.rw_layout.specs.Layout.{layout_of};
 
 use crate::step::Layout;

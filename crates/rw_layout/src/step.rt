@@ -1,7 +1,7 @@
 // What is done at one token: the parts of the rule, each with what it emits and the stack that it leaves.
 ghost use Rattle.std.specs.Prelude.{◌≡◌, ◌++◌, ◌∷◌, [], IfOk, OnOk};
 ghost use Rattle.std.specs.Option.{option_map};
-ghost use Rattle.rw_lex.specs.Tokens.{Answers};
+ghost use Rattle.rw_base.specs.Answers.{Answers};
 ghost use Rattle.rw_layout.specs.Layout as spec;
 ghost use Rattle.rw_layout.specs.Steps.{Gives, laid, so_far, turn_behind};
 ghost use Rattle.rw_layout.specs.declared.role.Before.TheVariants as b;

@@ -1,11 +1,12 @@
 -- From what the list function finds to what a clause says of an answer; and the laws of token lists.
 use Rattle.std.proofs.Common.{◌≡◌, ℕ, List, [], Result, Ok, Err, IfOk, subst, ◌⊎◌, inl, inr}
-use Rattle.rw_base.specs.declared.fail.Fail.{Fail}
-use Rattle.rw_base.specs.declared.fail.Fail.TheVariants as fail
+use Rattle.rw_base.specs.Answers.{Fail}
+use Rattle.rw_base.specs.declared.fail.Failure.TheVariants as fail
 use Rattle.rw_base.specs.declared.fail.Refusal.{Refusal}
 use Rattle.rw_base.specs.Places.{place_after}
 use Rattle.rw_lex.specs.declared.token.Token.{Token}
-use Rattle.rw_lex.specs.Tokens.{IsTokenList, Breaks, IfRefused, Answers}
+use Rattle.rw_base.specs.Answers.{Answers}
+use Rattle.rw_lex.specs.Tokens.{IsTokenList, Breaks, IfRefused}
 use Rattle.rw_lex.specs.Scan.{tokens_from}
 use Rattle.rw_lex.proofs.Sources.{Right, source_right, list_again, breaks_again}
 

@@ -1,13 +1,13 @@
 -- One turn of the scan.
 use Rattle.std.proofs.Common.{◌≡◌, ℕ, ◌<◌, List, [], ◌∷◌, ◌++◌, length, take, drop, Option, Some, None, Result, Ok, Err, refl, sym, ap, ◌∙◌, subst, arith, append_assoc, append-nil}
 use Rattle.rw_base.specs.declared.place.Place.{Place}
-use Rattle.rw_base.specs.declared.fail.Fail.{Fail}
-use Rattle.rw_base.specs.declared.fail.Fail.TheVariants as fail
+use Rattle.rw_base.specs.Answers.{Fail}
+use Rattle.rw_base.specs.declared.fail.Failure.TheVariants as fail
 use Rattle.rw_base.specs.declared.fail.Refusal.{Refusal}
 use Rattle.rw_lex.specs.declared.token.Token.{Token}
 use Rattle.rw_lex.specs.declared.piece.Piece.{Piece}
 use Rattle.rw_lex.specs.declared.piece.Piece.TheVariants as p
-use Rattle.rw_lex.specs.Tokens.{Answers}
+use Rattle.rw_base.specs.Answers.{Answers}
 use Rattle.rw_lex.specs.Scan.{piece_at, len_of, place_from, tokens_of, last_line, refusal_of, in_front, unless, tokens_from, FailsBy}
 use Rattle.rw_lex.proofs.Longest.{Stands, longest_there}
 use Rattle.rw_lex.proofs.Sources.{next, tokens_next, tokens_end}

@@ -5,8 +5,8 @@ use Rattle.std.specs.Prelude.{◌≡◌, ◌≢◌, ℕ, suc, ◌≤◌, Bool, t
 use Rattle.std.specs.List.{list_all}
 use Rattle.std.specs.Str.{bytes_eq}
 use Rattle.rw_base.specs.declared.place.Place.{Place}
-use Rattle.rw_base.specs.declared.fail.Fail.{Fail}
-use Rattle.rw_base.specs.declared.fail.Fail.TheVariants as fail
+use Rattle.rw_base.specs.Answers.{Fail}
+use Rattle.rw_base.specs.declared.fail.Failure.TheVariants as fail
 use Rattle.rw_base.specs.declared.fail.Refusal.{Refusal}
 use Rattle.rw_base.specs.declared.rule.Rule.TheVariants.{E02, E03}
 use Rattle.rw_base.specs.Places.{place_after}
@@ -134,9 +134,3 @@ Breaks bytes refusal = BreaksBehind [] bytes refusal
 abbrev pub IfRefused : {X : Type 0} → Result X Fail → (Refusal → Type 0) → Type 0
 IfRefused (Err (fail.Refused refusal)) says = says refusal
 IfRefused _ says = Unit {0}
-
--- the answer is this list of tokens or this refusal, unless memory ran out
-abbrev pub Answers : {X : Type 0} → (X → List Token) → Result X Fail → Result (List Token) Refusal → Type 0
-Answers view (Ok x) found = found ≡ Ok (view x)
-Answers view (Err (fail.Refused refusal)) found = found ≡ Err refusal
-Answers view (Err fail.OutOfMemory) found = Unit {0}

@@ -6,7 +6,8 @@ ghost use Rattle.rw_base.specs.declared.fail.Refusal.{Refusal};
 ghost use Rattle.rw_lex.specs.declared.token.Token.{Token};
 ghost use Rattle.rw_lex.specs.Scan as spec;
 ghost use Rattle.rw_lex.specs.Scan.{FailsBy};
-ghost use Rattle.rw_lex.specs.Tokens.{IsTokenList, Breaks, IfRefused, Answers};
+ghost use Rattle.rw_base.specs.Answers.{Answers};
+ghost use Rattle.rw_lex.specs.Tokens.{IsTokenList, Breaks, IfRefused};
 
 use crate::Token;
 use crate::piece::{Piece, piece_at};

@@ -1,8 +1,8 @@
 -- The frame of a program, as the code finds it.
 use Rattle.std.proofs.Common.{◌≡◌, ◌∙◌, ℕ, List, length, is_some, true, false, Option, Some, None, Result, Err, refl, sym, ap, subst}
 use Rattle.rw_base.specs.declared.place.Place.{Place}
-use Rattle.rw_base.specs.declared.fail.Fail.{Fail}
-use Rattle.rw_base.specs.declared.fail.Fail.TheVariants as fail
+use Rattle.rw_base.specs.Answers.{Fail}
+use Rattle.rw_base.specs.declared.fail.Failure.TheVariants as fail
 use Rattle.rw_base.specs.declared.rule.Rule.TheVariants as rule
 use Rattle.rw_parser_grammar.specs.declared.lexeme.Mark.TheVariants as m
 use Rattle.rw_parser_grammar.specs.declared.lexeme.Lexeme.{Lexeme}

@@ -7,8 +7,8 @@ use Rattle.rw_parser_grammar.specs.declared.lexeme.Lexeme.{Lexeme}
 use Rattle.rw_parser_grammar.specs.Frames.{frames_of_row, cut}
 use Rattle.rw_parser_grammar.specs.Levels.{max_levels}
 use Rattle.rw_parser_grammar.specs.ReadLevels.{clause_over, expression_at, locals_at}
-use Rattle.rw_parser_patterns.specs.declared.unread.Unread.{Unread}
-use Rattle.rw_parser_patterns.specs.Given.{Gives}
+use Rattle.rw_base.specs.Answers.{Unread}
+use Rattle.rw_base.specs.Answers.{Gives}
 
 -- the frames of a clause
 abbrev pub frames_of_clause : List ℕ × Alt Span → ℕ

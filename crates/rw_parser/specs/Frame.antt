@@ -2,8 +2,8 @@
 use Rattle.std.specs.Prelude.{◌≡◌, ◌⊎◌, ℕ, List, Option, Some, None, Result, Ok, Err}
 use Rattle.rw_base.specs.declared.place.Place.{Place}
 use Rattle.rw_base.specs.declared.place.Span.{Span}
-use Rattle.rw_base.specs.declared.fail.Fail.{Fail}
-use Rattle.rw_base.specs.declared.fail.Fail.TheVariants as fail
+use Rattle.rw_base.specs.Answers.{Fail}
+use Rattle.rw_base.specs.declared.fail.Failure.TheVariants as fail
 use Rattle.rw_base.specs.declared.rule.Rule.TheVariants as rule
 use Rattle.rw_tree.specs.declared.program.Program.{Program}
 use Rattle.rw_lex.specs.declared.token.Token.{Token}

@@ -1,8 +1,8 @@
 -- Reading the items of a program run after run.
 use Rattle.std.specs.Prelude.{◌≡◌, ℕ, List, ◌∷◌, Option, Some, None, Result, Ok, Err, if◌then◌else◌}
 use Rattle.rw_base.specs.declared.place.Place.{Place}
-use Rattle.rw_base.specs.declared.fail.Fail.{Fail}
-use Rattle.rw_base.specs.declared.fail.Fail.TheVariants as fail
+use Rattle.rw_base.specs.Answers.{Fail}
+use Rattle.rw_base.specs.declared.fail.Failure.TheVariants as fail
 use Rattle.rw_base.specs.declared.rule.Rule.TheVariants as rule
 use Rattle.rw_parser_grammar.specs.declared.item.Item.{Item}
 use Rattle.rw_parser_grammar.specs.declared.lexeme.Lexeme.{Lexeme}

@@ -3,15 +3,15 @@
 ghost use Rattle.std.specs.Prelude.{◌≡◌, ◌≤◌, ℕ, length};
 ghost use Rattle.rw_parser_grammar.specs.ReadClauses as clauses;
 ghost use Rattle.rw_parser_grammar.specs.ReadDeclarations as spec;
-ghost use Rattle.rw_parser_patterns.specs.Given.{Gives};
+ghost use Rattle.rw_base.specs.Answers.{Gives};
 ghost use Rattle.rw_parser.specs.Clauses.{ReadsClauses};
 ghost use Rattle.rw_parser.specs.Kept as keep;
 
-use rw_base::{Name, Span};
+use rw_base::{Name, Span, Unread};
 use rw_parser_chains::MAX_LEVELS;
 use rw_parser_grammar::{Item, Lexeme, Mark};
 use rw_parser_items::{data_type, fixity_declaration, import_declaration, newtype, type_signature};
-use rw_parser_patterns::{Unread, rest_of, same_mark, sees};
+use rw_parser_patterns::{rest_of, same_mark, sees};
 use rw_tree::{Alt, Decl};
 use std::alloc::Global;
 

@@ -2,7 +2,7 @@
 ghost use Rattle.std.specs.Prelude.{◌≡◌, ◌≤◌, ℕ, length, Ok, Err, IfOk};
 ghost use Rattle.rw_base.specs.declared.place.Place.{Place};
 ghost use Rattle.rw_base.specs.declared.place.Span.{Span};
-ghost use Rattle.rw_base.specs.declared.fail.Fail.TheVariants as fail;
+ghost use Rattle.rw_base.specs.declared.fail.Failure.TheVariants as fail;
 ghost use Rattle.rw_base.specs.declared.rule.Rule.TheVariants as rule;
 ghost use Rattle.rw_tree.specs.declared.program.Program.{Program};
 ghost use Rattle.rw_parser_grammar.specs.Chains.{strength_of_name};
@@ -11,21 +11,21 @@ ghost use Rattle.rw_parser_grammar.specs.Grammar.{Spells, IsNotOfTheGrammar};
 ghost use Rattle.rw_parser_grammar.specs.ReadProgram as spec;
 ghost use Rattle.rw_parser_grammar.specs.Resolution.{IsProgramResolved, FirstDeclarationBroken};
 ghost use Rattle.rw_parser_fixity.specs.Found as found;
-ghost use Rattle.rw_parser_patterns.specs.Given.{Gives};
+ghost use Rattle.rw_base.specs.Answers.{Gives};
 ghost use Rattle.rw_parser.specs.Clauses.{ReadsClauses};
 ghost use Rattle.rw_parser.specs.Frame.{frame_tokens, kept_framed, Grouped, Parses};
 ghost use Rattle.rw_parser.specs.Reading.{Answers};
 
 use crate::program::{broken, read_runs};
 use crate::{Kept, are_runs, closed};
-use rw_base::{Fail, Name, Place, Span};
+use rw_base::{Fail, Name, Place, Span, Unread};
 use rw_lex::Token;
 use rw_parser_chains::MAX_LEVELS;
 use rw_parser_clauses::read_clause;
 use rw_parser_fixity::resolve_fixity;
 use rw_parser_grammar::{Lexeme, Mark};
 use rw_parser_items::header;
-use rw_parser_patterns::{Unread, after, next_spot, number_tokens};
+use rw_parser_patterns::{after, next_spot, number_tokens};
 use rw_tree::{Alt, Program};
 use sqlite_items::Items;
 use std::alloc::Global;
@@ -67,7 +67,7 @@ fn kept_items<R: Fn(&[Lexeme]) -> Result<(Option<(Name, Alt<Span>)>, &[Lexeme]),
             }
             Err(broken(first_place(tokens)))
         }
-        Err(Unread::NotSpelled) => Err(broken(first_place(tokens))),
+        Err(Unread::Refused(_)) => Err(broken(first_place(tokens))),
         Err(Unread::OutOfMemory) => Err(Fail::OutOfMemory),
     }
 }

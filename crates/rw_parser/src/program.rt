@@ -1,20 +1,20 @@
 // The items of a program, run after run: what is kept of them, or the place of the first run that spells none.
 ghost use Rattle.std.specs.Prelude.{◌≡◌, ◌+◌, ◌<◌, ◌≤◌, ℕ, List, ◌∷◌, length, take, drop, Some};
-ghost use Rattle.rw_base.specs.declared.fail.Fail.TheVariants as fail;
+ghost use Rattle.rw_base.specs.declared.fail.Failure.TheVariants as fail;
 ghost use Rattle.rw_base.specs.declared.rule.Rule.TheVariants as rule;
 ghost use Rattle.rw_parser_grammar.specs.declared.lexeme.Lexeme.{Lexeme};
 ghost use Rattle.rw_parser_grammar.specs.Grammar.{whole_run};
 ghost use Rattle.rw_parser_grammar.specs.ReadProgram as spec;
-ghost use Rattle.rw_parser_patterns.specs.Given.{Gives};
+ghost use Rattle.rw_base.specs.Answers.{Gives};
 ghost use Rattle.rw_parser.specs.Shallow.{kept_behind, nothing};
 ghost use Rattle.rw_parser.specs.Clauses.{ReadsClauses};
 ghost use Rattle.rw_parser.specs.Reading.{Answers, AnswersRun, run_kept};
 
 use crate::item::read_item;
 use crate::{Kept, run_length, tokens_from, with_kept};
-use rw_base::{Fail, Name, Place, Refusal, Rule, Span};
+use rw_base::{Fail, Name, NotSpelled, Place, Refusal, Rule, Span, Unread};
 use rw_parser_grammar::{Item, Lexeme, Mark, Spot};
-use rw_parser_patterns::{Unread, next_spot, same_mark};
+use rw_parser_patterns::{next_spot, same_mark};
 use rw_tree::Alt;
 use sqlite_items::Items;
 use std::alloc::Global;
@@ -60,7 +60,7 @@ fn run_item<R: Fn(&[Lexeme]) -> Result<(Option<(Name, Alt<Span>)>, &[Lexeme]), U
     if is_last(end, rest) {
         Ok(item)
     } else {
-        Err(Unread::NotSpelled)
+        Err(Unread::Refused(NotSpelled))
     }
 }
 
@@ -92,7 +92,7 @@ fn with_run<R: Fn(&[Lexeme]) -> Result<(Option<(Name, Alt<Span>)>, &[Lexeme]), U
     let place = next_spot(tokens).place;
     match run_item(alloc, clause, &tokens[..run + 1], &tokens[run]) {
         Ok(item) => Ok(with_kept(alloc, kept, place, item)?),
-        Err(Unread::NotSpelled) => Err(broken(place)),
+        Err(Unread::Refused(_)) => Err(broken(place)),
         Err(Unread::OutOfMemory) => Err(Fail::OutOfMemory),
     }
 }

@@ -3,9 +3,7 @@ use Rattle.std.proofs.Common.{◌≡◌, ◌∙◌, ℕ, true, false, List, [], 
 use Rattle.std.proofs.lemmas.Grind.{common_steps}
 use Rattle.std.specs.Str.{bytes_eq}
 use Rattle.rw_parser_grammar.specs.Chains.{Strength, operator_name, groups_left, groups_right}
-use Rattle.rw_parser_chains.specs.declared.unresolved.Unresolved.{Unresolved}
-use Rattle.rw_parser_chains.specs.declared.unresolved.Unresolved.TheVariants as fail
-use Rattle.rw_parser_chains.specs.Given.{Fails}
+use Rattle.rw_base.specs.Answers.{Fails}
 use Rattle.rw_parser_chains.specs.Grouping.{Counted, Waiting, applied_node, called_node, operated, strength_of, settled, closed}
 
 -- what was pushed last stands first in the reverse
@@ -19,11 +17,6 @@ emptied before after None n m is all cases rest =
     let gone : after ≡ [] = rest ∙ ap (λ z. take (z - 1) before) cases.0 in
     (all ∙ append-nil after ∙ gone, gone)
 emptied before after (Some w) n m is all cases rest = absurd (cc)
-
--- what fails because a part fails
-pub fails_on : {X Y : Type 0} (e : Unresolved) (made : Option X) (whole : Option Y) → Fails e made → (made ≡ None → whole ≡ None) → Fails e whole
-fails_on fail.OutOfMemory made whole f h = tt
-fails_on fail.Broken made whole f h = h f
 
 pub applied_is : (o a b : Counted) → bytes_eq (operator_name o.0) (codes "$") ≡ true → operated o a b ≡ applied_node a b
 unfolding operated applied_node

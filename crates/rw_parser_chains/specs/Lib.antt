@@ -2,5 +2,4 @@
 pub mod Grouping
 pub mod Resolving
 pub mod Fixities
-pub mod Given
 pub mod Sizes

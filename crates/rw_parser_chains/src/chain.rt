@@ -5,12 +5,12 @@ ghost use Rattle.std.specs.Str.{bytes_eq};
 ghost use Rattle.rw_parser_grammar.specs.Chains as grammar;
 ghost use Rattle.rw_parser_grammar.specs.Lexemes.{span_over};
 ghost use Rattle.rw_parser_chains.specs.Fixities.{strength_at};
-ghost use Rattle.rw_parser_chains.specs.Given.{Gives};
+ghost use Rattle.rw_base.specs.Answers.{Gives};
 ghost use Rattle.rw_parser_chains.specs.Grouping as spec;
 
-use crate::Unresolved;
 use crate::fixities::{Fixities, Strength};
 use crate::levels::above;
+use crate::{Broken, Unresolved};
 use rw_base::Span;
 use rw_tree::{Expr, Side};
 use sqlite_items::{Boxed, Items};
@@ -149,7 +149,7 @@ pub fn settle(
         let strength = fixities.strength(operator_name(&operator.0));
         if !groups_left(strength, next) {
             if !groups_right(next, strength) {
-                return Err(Unresolved::Broken);
+                return Err(Unresolved::Refused(Broken));
             }
             waiting.push((left, operator))?;
             return Ok(operand);

@@ -1,11 +1,11 @@
 // Levels of trees, counted within the bound of 512.
 ghost use Rattle.std.specs.Prelude.{◌≡◌, ◌≤◌, ◌+◌, suc, min};
-ghost use Rattle.rw_parser_chains.specs.Given.{Gives};
+ghost use Rattle.rw_base.specs.Answers.{Gives};
 ghost use Rattle.rw_parser_chains.specs.Grouping as spec;
 ghost use Rattle.rw_parser_chains.specs.Resolving as size;
 ghost use Rattle.rw_parser_chains.specs.Sizes.{pattern_size, patterns_size, type_size, types_size, data_size};
 
-use crate::Unresolved;
+use crate::{Broken, Unresolved};
 use rw_base::Span;
 use rw_tree::{DataDecl, Pat, Written};
 
@@ -20,7 +20,7 @@ pub fn above(levels: usize) -> Result<usize, Unresolved>
     if levels < MAX_LEVELS {
         Ok(levels + 1)
     } else {
-        Err(Unresolved::Broken)
+        Err(Unresolved::Refused(Broken))
     }
 }
 
@@ -32,7 +32,7 @@ pub fn fits(levels: usize) -> Result<usize, Unresolved>
     if levels <= MAX_LEVELS {
         Ok(levels)
     } else {
-        Err(Unresolved::Broken)
+        Err(Unresolved::Refused(Broken))
     }
 }
 
@@ -42,7 +42,7 @@ pub fn below(others: usize, levels: usize) -> Result<usize, Unresolved>
     ensures { Gives (λ n. n) result (size.fits (suc others + levels)) }
 {
     if others >= MAX_LEVELS || levels >= MAX_LEVELS {
-        return Err(Unresolved::Broken);
+        return Err(Unresolved::Refused(Broken));
     }
     fits(others + 1 + levels)
 }

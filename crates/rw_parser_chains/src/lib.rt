@@ -17,4 +17,4 @@ pub use laws::{chains_are_grouped, one_program_resolved, trees_are_resolved};
 pub use levels::{
     MAX_LEVELS, above, below, data_levels, pattern_fits, patterns_fit, type_fits, type_levels,
 };
-pub use unresolved::Unresolved;
+pub use unresolved::{Broken, Unresolved};

@@ -1,7 +1,7 @@
 // Chains of operands and operators, and the lambda, the `let` or the `if` that may end one, up to its last part
 // (Haskell 2010 Report, sections 3.3 to 3.6 and 3.12).
 ghost use Rattle.std.specs.Prelude.{◌≡◌, length};
-ghost use Rattle.rw_parser_patterns.specs.Given.{Gives};
+ghost use Rattle.rw_base.specs.Answers.{Gives};
 ghost use Rattle.rw_parser_patterns.specs.Depth.{any_pattern_at};
 ghost use Rattle.rw_parser_parts.specs.Nests.{Nests};
 ghost use Rattle.rw_parser_parts.specs.Steps as steps;
@@ -11,10 +11,10 @@ ghost use Rattle.rw_parser_clauses.specs.Inside as inside;
 use crate::inside::Inside;
 use crate::look::{begins_last, begins_op, span_of};
 use crate::name::op;
-use rw_base::Span;
+use rw_base::{NotSpelled, Span, Unread};
 use rw_parser_grammar::{Lexeme, Mark};
 use rw_parser_parts::{Chain, Frame, Head, Step, chained};
-use rw_parser_patterns::{Unread, after, apats, begins_apat, next_spot, rest_of, sees};
+use rw_parser_patterns::{after, apats, begins_apat, next_spot, rest_of, sees};
 use rw_tree::{Expr, Local};
 use sqlite_items::Items;
 use std::alloc::Global;
@@ -25,7 +25,7 @@ fn lambda_head(alloc: Global, tokens: &[Lexeme]) -> Result<(Head, &[Lexeme]), Un
     ensures { Gives (λ x. (x.0, x.1.now)) result (steps.lambda_head_at any_pattern_at tokens.now) }
 {
     if !begins_apat(tokens) {
-        return Err(Unread::NotSpelled);
+        return Err(Unread::Refused(NotSpelled));
     }
     let (pats, rest) = apats(alloc, tokens)?;
     let rest = after(rest, Mark::Arrow)?;
@@ -113,7 +113,7 @@ where
             operators.push(between)?;
             rest = next;
         }
-        Err(Unread::NotSpelled)
+        Err(Unread::Refused(NotSpelled))
     }
 
     // exp ::= (operand op)* last, or that up to the last part of a lambda, a `let` or an `if`

@@ -1,7 +1,7 @@
 // Clauses and alternatives (Haskell 2010 Report, sections 3.13 and 4.4.3).
 ghost use Rattle.std.specs.Prelude.{◌≡◌, ◌∷◌, [], IfOk};
 ghost use Rattle.rw_parser_grammar.specs.ReadClauses as spec;
-ghost use Rattle.rw_parser_patterns.specs.Given.{Gives};
+ghost use Rattle.rw_base.specs.Answers.{Gives};
 ghost use Rattle.rw_parser_patterns.specs.Depth.{any_pattern_at};
 ghost use Rattle.rw_parser_parts.specs.Nests.{Nests};
 ghost use Rattle.rw_parser_parts.specs.Within as within;
@@ -9,10 +9,10 @@ ghost use Rattle.rw_parser_clauses.specs.Inside as inside;
 
 use crate::inside::Inside;
 use crate::look::span_of;
-use rw_base::{Name, OutOfMemory, Span};
+use rw_base::{Name, NotSpelled, OutOfMemory, Span, Unread};
 use rw_parser_grammar::{Lexeme, Mark};
 use rw_parser_parts::{left_side, read_block};
-use rw_parser_patterns::{Unread, read_pattern};
+use rw_parser_patterns::read_pattern;
 use rw_tree::{Alt, Expr, Local, Pat};
 use sqlite_items::Items;
 use std::alloc::Global;
@@ -91,7 +91,7 @@ where
     {
         let (rows, rest) = read_block(self.alloc, |one| self.alternative(one), tokens)?;
         if rows.is_empty() {
-            return Err(Unread::NotSpelled);
+            return Err(Unread::Refused(NotSpelled));
         }
         Ok((rows, rest))
     }

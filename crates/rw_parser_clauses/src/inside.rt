@@ -1,13 +1,12 @@
 // The readers of what stands inside an expression or a block, as function values: so brackets and blocks alone go
 // down, and each part of the grammar is read by a function that calls none that leads back to it.
 ghost use Rattle.std.specs.Prelude.{◌≡◌, pred};
-ghost use Rattle.rw_parser_patterns.specs.Given.{Gives};
+ghost use Rattle.rw_base.specs.Answers.{Gives};
 ghost use Rattle.rw_parser_parts.specs.Nests.{Nests};
 ghost use Rattle.rw_parser_parts.specs.Within as within;
 
-use rw_base::Span;
+use rw_base::{NotSpelled, Span, Unread};
 use rw_parser_grammar::Lexeme;
-use rw_parser_patterns::Unread;
 use rw_tree::{Expr, Local};
 use sqlite_items::Items;
 use std::alloc::Global;
@@ -60,7 +59,7 @@ where
         ensures { Gives (λ x. (x.0, x.1.now)) result (within.expression_beneath self.now.levels (pred self.now.room) tokens.now) }
     {
         if self.levels == 0 {
-            return Err(Unread::NotSpelled);
+            return Err(Unread::Refused(NotSpelled));
         }
         (self.expression)(self.alloc, self.levels - 1, one_less(self.room), tokens)
     }
@@ -74,7 +73,7 @@ where
         ensures { Gives (λ x. (x.0, x.1.now)) result (within.locals_beneath self.now.levels self.now.room tokens.now) }
     {
         if self.levels == 0 {
-            return Err(Unread::NotSpelled);
+            return Err(Unread::Refused(NotSpelled));
         }
         (self.locals)(self.alloc, self.levels - 1, self.room, tokens)
     }

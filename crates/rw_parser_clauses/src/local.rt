@@ -2,7 +2,7 @@
 ghost use Rattle.std.specs.Prelude.{◌≡◌};
 ghost use Rattle.rw_parser_grammar.specs.Clauses as grammar;
 ghost use Rattle.rw_parser_grammar.specs.ReadClauses as spec;
-ghost use Rattle.rw_parser_patterns.specs.Given.{Gives};
+ghost use Rattle.rw_base.specs.Answers.{Gives};
 ghost use Rattle.rw_parser_parts.specs.Nests.{Nests};
 ghost use Rattle.rw_parser_parts.specs.Within as within;
 ghost use Rattle.rw_parser_clauses.specs.Inside as inside;
@@ -10,10 +10,10 @@ ghost use Rattle.rw_parser_clauses.specs.Inside as inside;
 use crate::clause::alone;
 use crate::inside::Inside;
 use crate::look::{begins_binding, begins_infix, begins_signature, span_of};
-use rw_base::{Name, Span};
+use rw_base::{Name, NotSpelled, Span, Unread};
 use rw_parser_grammar::{Bound, Lexeme, Mark};
 use rw_parser_parts::{join, read_binding, read_block, read_signature};
-use rw_parser_patterns::{Unread, after};
+use rw_parser_patterns::after;
 use rw_tree::{Alt, Expr, Local};
 use sqlite_items::Items;
 use std::alloc::Global;
@@ -46,7 +46,7 @@ where
                     rest,
                 ))
             }
-            _ => Err(Unread::NotSpelled),
+            _ => Err(Unread::Refused(NotSpelled)),
         }
     }
 
@@ -58,7 +58,7 @@ where
     {
         let ((name, row), rest) = self.clause(tokens)?;
         if !may_be_local(&name) {
-            return Err(Unread::NotSpelled);
+            return Err(Unread::Refused(NotSpelled));
         }
         Ok((Bound::Clause(name, row), rest))
     }

@@ -1,10 +1,10 @@
 // Operators where they are used (Haskell 2010 Report, section 3.2).
 ghost use Rattle.rw_parser_grammar.specs.ReadNames as names;
-ghost use Rattle.rw_parser_patterns.specs.Given.{Gives};
+ghost use Rattle.rw_base.specs.Answers.{Gives};
 
-use rw_base::Span;
+use rw_base::{NotSpelled, Span, Unread};
 use rw_parser_grammar::{Lexeme, Mark};
-use rw_parser_patterns::{Unread, after, same_mark, span_at};
+use rw_parser_patterns::{after, same_mark, span_at};
 use rw_tree::Expr;
 use std::alloc::Global;
 
@@ -21,7 +21,7 @@ fn quoted(alloc: Global, tokens: &[Lexeme]) -> Result<(Expr<Span>, &[Lexeme]), U
             let behind = after(rest, Mark::Backquote)?;
             Ok((Expr::Con(span_at(*at, rest), name.copied(alloc)?), behind))
         }
-        _ => Err(Unread::NotSpelled),
+        _ => Err(Unread::Refused(NotSpelled)),
     }
 }
 
@@ -34,12 +34,12 @@ pub fn op(alloc: Global, tokens: &[Lexeme]) -> Result<(Expr<Span>, &[Lexeme]), U
             if same_mark(*mark, Mark::Backquote) {
                 quoted(alloc, rest)
             } else {
-                Err(Unread::NotSpelled)
+                Err(Unread::Refused(NotSpelled))
             }
         }
         [Lexeme::Operator(at, name), rest @ ..] => {
             Ok((Expr::Var(span_at(*at, rest), name.copied(alloc)?), rest))
         }
-        _ => Err(Unread::NotSpelled),
+        _ => Err(Unread::Refused(NotSpelled)),
     }
 }

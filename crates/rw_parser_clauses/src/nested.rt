@@ -3,15 +3,14 @@
 // the end. What has no room is cut off: something small stands in its place, and the tokens that follow are the right
 // ones.
 ghost use Rattle.std.specs.Prelude.{◌≡◌, IfOk};
-ghost use Rattle.rw_parser_patterns.specs.Given.{Gives};
+ghost use Rattle.rw_base.specs.Answers.{Gives};
 ghost use Rattle.rw_parser_parts.specs.Within as within;
 ghost use Rattle.rw_parser_clauses.specs.Last as parts;
 
 use crate::inside::Inside;
-use rw_base::{OutOfMemory, Span};
+use rw_base::{NotSpelled, OutOfMemory, Span, Unread};
 use rw_parser_grammar::Lexeme;
 use rw_parser_parts::{Frame, Step, all_closed, cut_off};
-use rw_parser_patterns::Unread;
 use rw_tree::{Expr, Local};
 use sqlite_items::Items;
 use std::alloc::Global;
@@ -76,7 +75,7 @@ pub fn expression_within(
             }
         }
     }
-    Err(Unread::NotSpelled)
+    Err(Unread::Refused(NotSpelled))
 }
 
 // A block of local declarations, with at most so many levels of expressions and blocks, where there is room for so
@@ -91,7 +90,7 @@ pub fn locals_within(
     ensures { Gives (λ x. (x.0, x.1.now)) result (within.locals_within levels room tokens.now) }
 {
     if levels == 0 {
-        return Err(Unread::NotSpelled);
+        return Err(Unread::Refused(NotSpelled));
     }
     let inside = Inside {
         alloc,

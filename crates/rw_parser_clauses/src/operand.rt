@@ -6,16 +6,16 @@ ghost use Rattle.rw_parser_grammar.specs.Expressions as grammar;
 ghost use Rattle.rw_parser_grammar.specs.Read.{separated_at};
 ghost use Rattle.rw_parser_grammar.specs.ReadExpressions as spec;
 ghost use Rattle.rw_parser_grammar.specs.ReadClauses.{statements_at};
-ghost use Rattle.rw_parser_patterns.specs.Given.{Gives};
+ghost use Rattle.rw_base.specs.Answers.{Gives};
 ghost use Rattle.rw_parser_parts.specs.Nests.{Nests};
 ghost use Rattle.rw_parser_parts.specs.Within as within;
 ghost use Rattle.rw_parser_clauses.specs.Inside as inside;
 
 use crate::inside::Inside;
 use crate::look::{begins_aexp, begins_operator, span_of};
-use rw_base::{OutOfMemory, Span};
+use rw_base::{NotSpelled, OutOfMemory, Span, Unread};
 use rw_parser_grammar::{Lexeme, Mark, Spot};
-use rw_parser_patterns::{Unread, after, few, rest_of, same_mark, sees, span_at};
+use rw_parser_patterns::{after, few, rest_of, same_mark, sees, span_at};
 use rw_tree::{Expr, Local};
 use sqlite_items::{Boxed, Items};
 use std::alloc::Global;
@@ -69,7 +69,7 @@ where
             }
             rest = rest_of(behind);
         }
-        Err(Unread::NotSpelled)
+        Err(Unread::Refused(NotSpelled))
     }
 
     // exp (`,` exp)* `)`, at most 8, behind an opening parenthesis at this spot
@@ -85,7 +85,7 @@ where
         let (parts, rest) = self.expressions(tokens)?;
         let rest = after(rest, Mark::Closes)?;
         if !few(parts.len()) {
-            return Err(Unread::NotSpelled);
+            return Err(Unread::Refused(NotSpelled));
         }
         Ok((grouped(span_at(at, rest), parts), rest))
     }
@@ -103,7 +103,7 @@ where
                     behind,
                 ))
             }
-            _ => Err(Unread::NotSpelled),
+            _ => Err(Unread::Refused(NotSpelled)),
         }
     }
 
@@ -138,7 +138,7 @@ where
                 if same_mark(*mark, Mark::Opens) {
                     self.group(*at, rest)
                 } else {
-                    Err(Unread::NotSpelled)
+                    Err(Unread::Refused(NotSpelled))
                 }
             }
             [Lexeme::Variable(at, name), rest @ ..] => {
@@ -153,7 +153,7 @@ where
                     rest,
                 ))
             }
-            _ => Err(Unread::NotSpelled),
+            _ => Err(Unread::Refused(NotSpelled)),
         }
     }
 

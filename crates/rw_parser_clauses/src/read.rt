@@ -2,15 +2,14 @@
 ghost use Rattle.std.specs.Prelude.{◌≡◌, ◌<◌, ◌≤◌, ℕ, suc, length, Some, None, Ok, IfOk};
 ghost use Rattle.rw_parser_grammar.specs.Frames.{frames_of_expression, frames_of_local, most, cut};
 ghost use Rattle.rw_parser_grammar.specs.ReadLevels as grammar;
-ghost use Rattle.rw_parser_patterns.specs.Given.{Gives};
+ghost use Rattle.rw_base.specs.Answers.{Gives};
 ghost use Rattle.rw_parser_clauses.specs.Clause.{frames_of_clause};
 
 use crate::inside::Inside;
 use crate::nested::{expression_within, locals_within};
-use rw_base::{Name, OutOfMemory, Span};
+use rw_base::{Name, OutOfMemory, Span, Unread};
 use rw_parser_frames::{expression_frames, locals_frames, row_frames};
 use rw_parser_grammar::Lexeme;
-use rw_parser_patterns::Unread;
 use rw_tree::{Alt, Expr, Local};
 use sqlite_items::Items;
 use std::alloc::Global;

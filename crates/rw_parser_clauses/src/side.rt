@@ -1,14 +1,14 @@
 // Right sides and what follows `where` (Haskell 2010 Report, sections 3.13 and 4.4.3).
 ghost use Rattle.std.specs.Prelude.{◌≡◌};
 ghost use Rattle.rw_parser_grammar.specs.ReadClauses as spec;
-ghost use Rattle.rw_parser_patterns.specs.Given.{Gives};
+ghost use Rattle.rw_base.specs.Answers.{Gives};
 ghost use Rattle.rw_parser_parts.specs.Nests.{Nests};
 ghost use Rattle.rw_parser_parts.specs.Within as within;
 
 use crate::inside::Inside;
-use rw_base::Span;
+use rw_base::{NotSpelled, Span, Unread};
 use rw_parser_grammar::{Lexeme, Mark};
-use rw_parser_patterns::{Unread, after, rest_of, sees};
+use rw_parser_patterns::{after, rest_of, sees};
 use rw_tree::{Expr, Guard, Local, Rhs};
 use sqlite_items::Items;
 use std::alloc::Global;
@@ -71,7 +71,7 @@ where
         if sees(tokens, Mark::Bar) {
             let (guards, rest) = self.guards(arrow, tokens)?;
             if guards.is_empty() {
-                return Err(Unread::NotSpelled);
+                return Err(Unread::Refused(NotSpelled));
             }
             return Ok((Rhs::Guarded(guards), rest));
         }

@@ -2,7 +2,7 @@
 ghost use Rattle.std.specs.Prelude.{◌≡◌, pred, IfOk};
 ghost use Rattle.rw_parser_grammar.specs.Clauses as grammar;
 ghost use Rattle.rw_parser_grammar.specs.ReadClauses as spec;
-ghost use Rattle.rw_parser_patterns.specs.Given.{Gives};
+ghost use Rattle.rw_base.specs.Answers.{Gives};
 ghost use Rattle.rw_parser_patterns.specs.Depth.{any_pattern_at};
 ghost use Rattle.rw_parser_parts.specs.Nests.{Nests};
 ghost use Rattle.rw_parser_parts.specs.Within as within;
@@ -11,10 +11,10 @@ ghost use Rattle.rw_parser_clauses.specs.Last as last;
 
 use crate::inside::Inside;
 use crate::look::{begins_bind, span_of};
-use rw_base::{OutOfMemory, Span};
+use rw_base::{NotSpelled, OutOfMemory, Span, Unread};
 use rw_parser_grammar::{Lexeme, Mark};
 use rw_parser_parts::{cut_off, read_block};
-use rw_parser_patterns::{Unread, after, read_pattern, rest_of, sees};
+use rw_parser_patterns::{after, read_pattern, rest_of, sees};
 use rw_tree::{Expr, Local, Stmt};
 use sqlite_items::{Boxed, Items};
 use std::alloc::Global;
@@ -126,7 +126,7 @@ where
     {
         let (statements, rest) = read_block(self.alloc, |one| self.statement(one), tokens)?;
         if !ends_in_run(statements.as_slice()) {
-            return Err(Unread::NotSpelled);
+            return Err(Unread::Refused(NotSpelled));
         }
         Ok((statements, rest))
     }

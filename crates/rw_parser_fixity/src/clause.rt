@@ -1,7 +1,7 @@
 // Clauses and alternatives, their right sides and their local declarations, made part by part with their levels.
 ghost use Rattle.std.specs.Prelude.{◌≡◌, map};
 ghost use Rattle.rw_parser_chains.specs.Fixities.{strength_at};
-ghost use Rattle.rw_parser_chains.specs.Given.{Gives};
+ghost use Rattle.rw_base.specs.Answers.{Gives};
 ghost use Rattle.rw_parser_chains.specs.Resolving.{all_of, guard_made, local_made, row_made, side_made};
 
 use crate::expr::expression;

@@ -4,7 +4,7 @@ ghost use Rattle.rw_base.specs.declared.place.Span.{Span};
 ghost use Rattle.rw_tree.specs.declared.expr.Expr.{Expr};
 ghost use Rattle.rw_tree.specs.declared.expr.Expr.TheVariants as e;
 ghost use Rattle.rw_parser_chains.specs.Fixities.{strength_at};
-ghost use Rattle.rw_parser_chains.specs.Given.{Gives};
+ghost use Rattle.rw_base.specs.Answers.{Gives};
 ghost use Rattle.rw_parser_chains.specs.Resolving.{all_of, below_of, expression_made, statement_made};
 ghost use Rattle.rw_parser_fixity.specs.Nodes as spec;
 
@@ -14,7 +14,8 @@ use crate::nodes::{
 };
 use rw_base::Span;
 use rw_parser_chains::{
-    Counted, Fixities, Unresolved, Waiting, below, close, pattern_fits, patterns_fit, settle,
+    Broken, Counted, Fixities, Unresolved, Waiting, below, close, pattern_fits, patterns_fit,
+    settle,
 };
 use rw_tree::{Expr, Stmt};
 use sqlite_items::Items;
@@ -111,12 +112,12 @@ fn chain(alloc: Global, fixities: &Fixities, expr: &Expr<Span>) -> Result<Counte
     ensures { (at : Span) (operands operators : List (Expr Span)) → expr.now ≡ e.Chain at operands operators → Gives (λ c. c) result (expression_made (strength_at fixities.now) expr.now) }
 {
     let Expr::Chain(_, operands, operators) = expr else {
-        return Err(Unresolved::Broken);
+        return Err(Unresolved::Refused(Broken));
     };
     let operands = operands.as_slice();
     let operators = operators.as_slice();
     if operands.len() != operators.len() + 1 {
-        return Err(Unresolved::Broken);
+        return Err(Unresolved::Refused(Broken));
     }
     let mut waiting = Vec::new(alloc);
     for index in 0..operators.len() {

@@ -9,7 +9,7 @@ ghost use Rattle.rw_parser_grammar.specs.Resolved.{IsRowResolved, AreRowsResolve
 ghost use Rattle.rw_parser_grammar.specs.Resolution.{IsDeclarationResolved, IsShallow, AreDeclarationsResolved, IsRowBroken, FirstRowBroken, FirstDeclarationBroken};
 ghost use Rattle.rw_parser_chains.specs.Fixities.{strength_at};
 ghost use Rattle.rw_parser_fixity.specs.Found.{Finds};
-ghost use Rattle.rw_base.specs.declared.fail.Fail.TheVariants as fail;
+ghost use Rattle.rw_base.specs.declared.fail.Failure.TheVariants as fail;
 ghost use Rattle.rw_base.specs.declared.rule.Rule.TheVariants as rule;
 
 use crate::clause::clause;
@@ -41,7 +41,7 @@ fn clause_item(alloc: Global, fixities: &Fixities, row: &Alt<Span>) -> Result<Al
                 Err(refused(row.at.first))
             }
         }
-        Err(Unresolved::Broken) => Err(refused(row.at.first)),
+        Err(Unresolved::Refused(_)) => Err(refused(row.at.first)),
         Err(Unresolved::OutOfMemory) => Err(Fail::OutOfMemory),
     }
 }

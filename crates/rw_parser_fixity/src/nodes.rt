@@ -1,6 +1,6 @@
 // Nodes of trees from their parts: each is one level above the highest of them, and none is above the bound.
 ghost use Rattle.std.specs.Prelude.{◌≡◌};
-ghost use Rattle.rw_parser_chains.specs.Given.{Gives};
+ghost use Rattle.rw_base.specs.Answers.{Gives};
 ghost use Rattle.rw_parser_fixity.specs.Nodes as spec;
 
 use rw_base::{Name, Span};

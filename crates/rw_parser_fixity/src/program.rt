@@ -3,7 +3,7 @@ ghost use Rattle.std.specs.Prelude.{◌≡◌, Ok, Err, IfOk};
 ghost use Rattle.rw_base.specs.declared.place.Place.{Place};
 ghost use Rattle.rw_base.specs.declared.place.Span.{Span};
 ghost use Rattle.rw_base.specs.declared.fail.Refusal.{Refusal};
-ghost use Rattle.rw_base.specs.declared.fail.Fail.TheVariants as fail;
+ghost use Rattle.rw_base.specs.declared.fail.Failure.TheVariants as fail;
 ghost use Rattle.rw_base.specs.declared.rule.Rule.TheVariants as rule;
 ghost use Rattle.rw_tree.specs.declared.program.Program.{Program};
 ghost use Rattle.rw_parser_grammar.specs.Chains.{strength_of_name};

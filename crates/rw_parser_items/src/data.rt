@@ -6,15 +6,16 @@ ghost use Rattle.rw_parser_grammar.specs.Frames.{frames_of_constructor};
 ghost use Rattle.rw_parser_grammar.specs.ReadDeclarations as spec;
 ghost use Rattle.rw_parser_grammar.specs.declared.lexeme.Mark.TheVariants as m;
 ghost use Rattle.rw_parser_patterns.specs.Depth.{any_type_at};
-ghost use Rattle.rw_parser_patterns.specs.Given.{Gives, counted};
+ghost use Rattle.rw_base.specs.Answers.{Gives};
+ghost use Rattle.rw_parser_patterns.specs.Given.{counted};
 ghost use Rattle.rw_parser_items.specs.Kept as keep;
 ghost use Rattle.rw_parser_items.specs.Named as named;
 
 use crate::list::{Named, names, variable};
-use rw_base::{Name, OutOfMemory, Span};
+use rw_base::{Name, NotSpelled, OutOfMemory, Span, Unread};
 use rw_parser_grammar::{Lexeme, Mark};
 use rw_parser_patterns::{
-    Unread, added, after, atype, atypes, constructor_name, next_spot, rest_of, sees, span_at,
+    added, after, atype, atypes, constructor_name, next_spot, rest_of, sees, span_at,
 };
 use rw_tree::{Constructor, DataDecl, Decl, Written};
 use sqlite_items::Items;
@@ -165,7 +166,7 @@ fn some_constructors(
         }
         rest = rest_of(behind);
     }
-    Err(Unread::NotSpelled)
+    Err(Unread::Refused(NotSpelled))
 }
 
 // `=` Con atype

@@ -2,12 +2,12 @@
 ghost use Rattle.std.specs.Prelude.{◌≡◌, [], ◌∷◌};
 ghost use Rattle.rw_parser_grammar.specs.Declarations as grammar;
 ghost use Rattle.rw_parser_grammar.specs.ReadDeclarations as spec;
-ghost use Rattle.rw_parser_patterns.specs.Given.{Gives};
+ghost use Rattle.rw_base.specs.Answers.{Gives};
 
 use crate::list::{Named, names};
-use rw_base::Span;
+use rw_base::{NotSpelled, Span, Unread};
 use rw_parser_grammar::{Lexeme, Mark};
-use rw_parser_patterns::{Unread, next_spot, sees, span_at};
+use rw_parser_patterns::{next_spot, sees, span_at};
 use rw_tree::{Decl, Side};
 use std::alloc::Global;
 
@@ -39,7 +39,7 @@ fn side_word(tokens: &[Lexeme]) -> Result<(Side, &[Lexeme]), Unread>
         [Lexeme::Mark(_, Mark::Infix), rest @ ..] => Ok((Side::Neither, rest)),
         [Lexeme::Mark(_, Mark::Infixl), rest @ ..] => Ok((Side::Left, rest)),
         [Lexeme::Mark(_, Mark::Infixr), rest @ ..] => Ok((Side::Right, rest)),
-        _ => Err(Unread::NotSpelled),
+        _ => Err(Unread::Refused(NotSpelled)),
     }
 }
 
@@ -50,7 +50,7 @@ fn strength(tokens: &[Lexeme]) -> Result<(u32, &[Lexeme]), Unread>
     match tokens {
         [Lexeme::Number(_, digits), rest @ ..] => match one_digit(digits.as_slice()) {
             Some(strength) => Ok((strength, rest)),
-            None => Err(Unread::NotSpelled),
+            None => Err(Unread::Refused(NotSpelled)),
         },
         _ => Ok((9, tokens)),
     }

@@ -1,12 +1,12 @@
 // Imports (Haskell 2010 Report, section 5.3). The grammar rule stands above each function.
 ghost use Rattle.std.specs.Prelude.{◌≡◌, ◌<◌, ◌≤◌, length, codes, IfOk};
 ghost use Rattle.rw_parser_grammar.specs.ReadDeclarations as spec;
-ghost use Rattle.rw_parser_patterns.specs.Given.{Gives};
+ghost use Rattle.rw_base.specs.Answers.{Gives};
 
 use crate::module::{exports, module_name, pointed};
-use rw_base::Span;
+use rw_base::{Span, Unread};
 use rw_parser_grammar::{Lexeme, Mark};
-use rw_parser_patterns::{Unread, after, next_spot, rest_of, span_at};
+use rw_parser_patterns::{after, next_spot, rest_of, span_at};
 use rw_tree::Decl;
 use std::alloc::Global;
 

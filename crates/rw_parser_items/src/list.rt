@@ -4,14 +4,12 @@ ghost use Rattle.rw_parser_grammar.specs.Read as reads;
 ghost use Rattle.rw_parser_grammar.specs.Read.{separated_at};
 ghost use Rattle.rw_parser_grammar.specs.ReadDeclarations as spec;
 ghost use Rattle.rw_parser_grammar.specs.declared.lexeme.Mark.TheVariants as m;
-ghost use Rattle.rw_parser_patterns.specs.Given.{Gives};
+ghost use Rattle.rw_base.specs.Answers.{Gives};
 ghost use Rattle.rw_parser_items.specs.Named as named;
 
-use rw_base::Name;
+use rw_base::{Name, NotSpelled, Unread};
 use rw_parser_grammar::{Lexeme, Mark, Spot};
-use rw_parser_patterns::{
-    Unread, after, constructor_name, rest_of, same_mark, sees, variable_name,
-};
+use rw_parser_patterns::{after, constructor_name, rest_of, same_mark, sees, variable_name};
 use sqlite_items::Items;
 use std::alloc::Global;
 
@@ -49,7 +47,7 @@ pub fn names(
         }
         rest = rest_of(behind);
     }
-    Err(Unread::NotSpelled)
+    Err(Unread::Refused(NotSpelled))
 }
 
 fn one_name(alloc: Global, which: Named, tokens: &[Lexeme]) -> Result<(Name, &[Lexeme]), Unread>
@@ -104,11 +102,11 @@ fn operator_name(alloc: Global, tokens: &[Lexeme]) -> Result<(Name, &[Lexeme]), 
             if same_mark(*mark, Mark::Backquote) {
                 quoted_name(alloc, rest)
             } else {
-                Err(Unread::NotSpelled)
+                Err(Unread::Refused(NotSpelled))
             }
         }
         [Lexeme::Operator(_, name), rest @ ..] => Ok((name.copied(alloc)?, rest)),
-        _ => Err(Unread::NotSpelled),
+        _ => Err(Unread::Refused(NotSpelled)),
     }
 }
 
@@ -122,7 +120,7 @@ fn quoted_name(alloc: Global, tokens: &[Lexeme]) -> Result<(Name, &[Lexeme]), Un
             let rest = after(rest, Mark::Backquote)?;
             Ok((name.copied(alloc)?, rest))
         }
-        _ => Err(Unread::NotSpelled),
+        _ => Err(Unread::Refused(NotSpelled)),
     }
 }
 
@@ -133,7 +131,7 @@ pub fn variable(alloc: Global, tokens: &[Lexeme]) -> Result<((Spot, Name), &[Lex
 {
     match tokens {
         [Lexeme::Variable(at, name), rest @ ..] => Ok(((*at, name.copied(alloc)?), rest)),
-        _ => Err(Unread::NotSpelled),
+        _ => Err(Unread::Refused(NotSpelled)),
     }
 }
 
@@ -148,6 +146,6 @@ pub fn monad(alloc: Global, tokens: &[Lexeme]) -> Result<(Name, &[Lexeme]), Unre
     if class.as_slice() == b"Monad".as_slice() {
         Ok((name, rest))
     } else {
-        Err(Unread::NotSpelled)
+        Err(Unread::Refused(NotSpelled))
     }
 }

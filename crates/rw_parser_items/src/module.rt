@@ -6,13 +6,13 @@ ghost use Rattle.rw_parser_grammar.specs.Declarations as grammar;
 ghost use Rattle.rw_parser_grammar.specs.ReadDeclarations as spec;
 ghost use Rattle.rw_parser_grammar.specs.ReadProgram as program;
 ghost use Rattle.rw_parser_grammar.specs.declared.lexeme.Mark.TheVariants as m;
-ghost use Rattle.rw_parser_patterns.specs.Given.{Gives};
+ghost use Rattle.rw_base.specs.Answers.{Gives};
 ghost use Rattle.rw_parser_items.specs.Named as named;
 
 use crate::list::{Named, begins_constructor, names};
-use rw_base::{Name, OutOfMemory};
+use rw_base::{Name, NotSpelled, OutOfMemory, Unread};
 use rw_parser_grammar::{Lexeme, Mark};
-use rw_parser_patterns::{Unread, after, constructor_name, rest_of, sees, variable_name};
+use rw_parser_patterns::{after, constructor_name, rest_of, sees, variable_name};
 use sqlite_items::Items;
 use std::alloc::Global;
 
@@ -55,7 +55,7 @@ pub fn module_name(alloc: Global, tokens: &[Lexeme]) -> Result<(Items<Name>, &[L
         }
         rest = rest_of(behind);
     }
-    Err(Unread::NotSpelled)
+    Err(Unread::Refused(NotSpelled))
 }
 
 // The parts of a module's name, joined by points.
@@ -181,7 +181,7 @@ fn some_exports(alloc: Global, tokens: &[Lexeme]) -> Result<(Items<Name>, &[Lexe
         }
         rest = rest_of(behind);
     }
-    Err(Unread::NotSpelled)
+    Err(Unread::Refused(NotSpelled))
 }
 
 // Behind an opening parenthesis: `)` | export (`,` export)* `)`

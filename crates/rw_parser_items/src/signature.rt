@@ -5,15 +5,13 @@ ghost use Rattle.rw_parser_grammar.specs.Frames.{frames_of_declaration, cut};
 ghost use Rattle.rw_parser_grammar.specs.ReadDeclarations as spec;
 ghost use Rattle.rw_parser_grammar.specs.ReadNames as marks;
 ghost use Rattle.rw_parser_patterns.specs.Depth.{any_type_at};
-ghost use Rattle.rw_parser_patterns.specs.Given.{Gives};
+ghost use Rattle.rw_base.specs.Answers.{Gives};
 ghost use Rattle.rw_parser_items.specs.Kept as keep;
 
 use crate::list::{Named, monad, names};
-use rw_base::{Name, Span};
+use rw_base::{Name, Span, Unread};
 use rw_parser_grammar::{Lexeme, Mark};
-use rw_parser_patterns::{
-    Unread, after, next_spot, rest_of, same_mark, sees, span_at, written_type,
-};
+use rw_parser_patterns::{after, next_spot, rest_of, same_mark, sees, span_at, written_type};
 use rw_tree::{Decl, Written};
 use sqlite_items::Items;
 use std::alloc::Global;

@@ -7,8 +7,8 @@ use Rattle.rw_tree.specs.declared.expr.Expr.{Expr}
 use Rattle.rw_tree.specs.declared.clause.Local.{Local}
 use Rattle.rw_parser_grammar.specs.declared.lexeme.Lexeme.{Lexeme}
 use Rattle.rw_parser_grammar.specs.Read.{Read}
-use Rattle.rw_parser_patterns.specs.declared.unread.Unread.{Unread}
-use Rattle.rw_parser_patterns.specs.Given.{Gives}
+use Rattle.rw_base.specs.Answers.{Unread}
+use Rattle.rw_base.specs.Answers.{Gives}
 use Rattle.rw_parser_parts.specs.Within.{expression_within, locals_within}
 
 -- the results of a function value are those of a function on lists

@@ -3,13 +3,13 @@ ghost use Rattle.std.specs.Prelude.{◌≡◌};
 ghost use Rattle.rw_parser_grammar.specs.ReadTypes.{apats_at};
 ghost use Rattle.rw_parser_grammar.specs.ReadClauses as spec;
 ghost use Rattle.rw_parser_grammar.specs.Patterns as grammar;
-ghost use Rattle.rw_parser_patterns.specs.Given.{Gives};
+ghost use Rattle.rw_base.specs.Answers.{Gives};
 ghost use Rattle.rw_parser_patterns.specs.Depth.{any_pattern_at};
 ghost use Rattle.rw_parser_parts.specs.Within as within;
 
-use rw_base::{Name, Span};
+use rw_base::{Name, NotSpelled, Span, Unread};
 use rw_parser_grammar::{Lexeme, Mark, Spot};
-use rw_parser_patterns::{Unread, after, apats, few, patterns, same_mark, span_at};
+use rw_parser_patterns::{after, apats, few, patterns, same_mark, span_at};
 use rw_tree::Pat;
 use sqlite_items::Items;
 use std::alloc::Global;
@@ -47,11 +47,11 @@ fn binding_group<'a>(
     let (parts, rest) = patterns(alloc, tokens)?;
     let rest = after(rest, Mark::Closes)?;
     if !few(parts.len()) {
-        return Err(Unread::NotSpelled);
+        return Err(Unread::Refused(NotSpelled));
     }
     let pat = grouped(span_at(at, rest), parts);
     if !takes_apart(&pat) {
-        return Err(Unread::NotSpelled);
+        return Err(Unread::Refused(NotSpelled));
     }
     Ok((pat, rest))
 }
@@ -82,10 +82,10 @@ pub fn read_binding(alloc: Global, tokens: &[Lexeme]) -> Result<(Pat<Span>, &[Le
             if same_mark(*mark, Mark::Opens) {
                 binding_group(alloc, *at, rest)
             } else {
-                Err(Unread::NotSpelled)
+                Err(Unread::Refused(NotSpelled))
             }
         }
         [Lexeme::Constructor(at, name), rest @ ..] => built(alloc, *at, name, rest),
-        _ => Err(Unread::NotSpelled),
+        _ => Err(Unread::Refused(NotSpelled)),
     }
 }

@@ -2,11 +2,12 @@
 ghost use Rattle.std.specs.Prelude.{length, List};
 ghost use Rattle.rw_parser_grammar.specs.declared.lexeme.Lexeme.{Lexeme};
 ghost use Rattle.rw_parser_grammar.specs.Read.{Read, entries_at, block_at};
-ghost use Rattle.rw_parser_patterns.specs.Given.{Gives};
+ghost use Rattle.rw_base.specs.Answers.{Gives};
 ghost use Rattle.rw_parser_parts.specs.Nests.{Reads};
 
+use rw_base::{NotSpelled, Unread};
 use rw_parser_grammar::{Lexeme, Mark};
-use rw_parser_patterns::{Unread, after, rest_of, sees};
+use rw_parser_patterns::{after, rest_of, sees};
 use sqlite_items::Items;
 use std::alloc::Global;
 
@@ -36,7 +37,7 @@ fn entries<T: Drop, R: Fn(&[Lexeme]) -> Result<(T, &[Lexeme]), Unread>>(
             rest = after(behind, Mark::Semicolon)?;
         }
     }
-    Err(Unread::NotSpelled)
+    Err(Unread::Refused(NotSpelled))
 }
 
 /// `{` one (`;` one)* `}`, where one may be nothing.

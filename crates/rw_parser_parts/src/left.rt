@@ -2,15 +2,15 @@
 ghost use Rattle.std.specs.Prelude.{◌≡◌, [], ◌∷◌, IfOk};
 ghost use Rattle.rw_parser_grammar.specs.ReadTypes.{apats_at};
 ghost use Rattle.rw_parser_grammar.specs.ReadClauses as spec;
-ghost use Rattle.rw_parser_patterns.specs.Given.{Gives};
+ghost use Rattle.rw_base.specs.Answers.{Gives};
 ghost use Rattle.rw_parser_patterns.specs.Depth.{any_pattern_at};
 ghost use Rattle.rw_parser_parts.specs.Within as within;
 
 use crate::look::begins_infix;
 use crate::name::variable_operator;
-use rw_base::{Name, OutOfMemory, Span};
+use rw_base::{Name, OutOfMemory, Span, Unread};
 use rw_parser_grammar::Lexeme;
-use rw_parser_patterns::{Unread, apats, read_pattern, variable_name};
+use rw_parser_patterns::{apats, read_pattern, variable_name};
 use rw_tree::Pat;
 use sqlite_items::Items;
 use std::alloc::Global;

@@ -1,11 +1,11 @@
 // Names and operators where they are used and where they are bound (Haskell 2010 Report, section 3.2).
 ghost use Rattle.rw_parser_grammar.specs.ReadNames as names;
 ghost use Rattle.rw_parser_grammar.specs.ReadClauses as clauses;
-ghost use Rattle.rw_parser_patterns.specs.Given.{Gives};
+ghost use Rattle.rw_base.specs.Answers.{Gives};
 
-use rw_base::{Name, Span};
+use rw_base::{Name, NotSpelled, Span, Unread};
 use rw_parser_grammar::{Lexeme, Mark};
-use rw_parser_patterns::{Unread, after, same_mark, span_at};
+use rw_parser_patterns::{after, same_mark, span_at};
 use rw_tree::Expr;
 use std::alloc::Global;
 
@@ -22,7 +22,7 @@ fn quoted(alloc: Global, tokens: &[Lexeme]) -> Result<(Expr<Span>, &[Lexeme]), U
             let behind = after(rest, Mark::Backquote)?;
             Ok((Expr::Con(span_at(*at, rest), name.copied(alloc)?), behind))
         }
-        _ => Err(Unread::NotSpelled),
+        _ => Err(Unread::Refused(NotSpelled)),
     }
 }
 
@@ -35,13 +35,13 @@ pub fn op(alloc: Global, tokens: &[Lexeme]) -> Result<(Expr<Span>, &[Lexeme]), U
             if same_mark(*mark, Mark::Backquote) {
                 quoted(alloc, rest)
             } else {
-                Err(Unread::NotSpelled)
+                Err(Unread::Refused(NotSpelled))
             }
         }
         [Lexeme::Operator(at, name), rest @ ..] => {
             Ok((Expr::Var(span_at(*at, rest), name.copied(alloc)?), rest))
         }
-        _ => Err(Unread::NotSpelled),
+        _ => Err(Unread::Refused(NotSpelled)),
     }
 }
 
@@ -55,7 +55,7 @@ fn variable_quoted(alloc: Global, tokens: &[Lexeme]) -> Result<(Name, &[Lexeme])
             let behind = after(rest, Mark::Backquote)?;
             Ok((name.copied(alloc)?, behind))
         }
-        _ => Err(Unread::NotSpelled),
+        _ => Err(Unread::Refused(NotSpelled)),
     }
 }
 
@@ -68,10 +68,10 @@ pub fn variable_operator(alloc: Global, tokens: &[Lexeme]) -> Result<(Name, &[Le
             if same_mark(*mark, Mark::Backquote) {
                 variable_quoted(alloc, rest)
             } else {
-                Err(Unread::NotSpelled)
+                Err(Unread::Refused(NotSpelled))
             }
         }
         [Lexeme::Operator(_, name), rest @ ..] => Ok((name.copied(alloc)?, rest)),
-        _ => Err(Unread::NotSpelled),
+        _ => Err(Unread::Refused(NotSpelled)),
     }
 }

@@ -1,11 +1,11 @@
 // The type of a local signature, cut off where there is no room for its arrows (Haskell 2010 Report, section 4.1.2).
 ghost use Rattle.std.specs.Prelude.{◌≡◌, IfOk};
-ghost use Rattle.rw_parser_patterns.specs.Given.{Gives};
+ghost use Rattle.rw_base.specs.Answers.{Gives};
 ghost use Rattle.rw_parser_parts.specs.Within as within;
 
-use rw_base::OutOfMemory;
+use rw_base::{OutOfMemory, Unread};
 use rw_parser_grammar::Lexeme;
-use rw_parser_patterns::{Unread, written_type};
+use rw_parser_patterns::written_type;
 use rw_tree::Written;
 use sqlite_items::{Boxed, Items};
 use std::alloc::Global;

@@ -1,13 +1,13 @@
 -- One turn of each kind of loop.
 use Rattle.std.proofs.Common.{◌≡◌, ℕ, zero, suc, ◌+◌, Bool, true, false, List, [], ◌∷◌, ◌++◌, drop, Option, Some, None, refl, sym, ◌∙◌, ap, append_assoc, append-nil, add-one, ◌⊎◌, inl, inr, length}
-use Rattle.rw_parser_patterns.specs.declared.unread.Unread.{Unread}
-use Rattle.rw_parser_patterns.specs.declared.unread.Unread.TheVariants as fail
+use Rattle.rw_base.specs.Answers.{Unread}
+use Rattle.rw_base.specs.declared.fail.Failure.TheVariants as fail
 use Rattle.rw_base.specs.declared.place.Span.{Span}
 use Rattle.rw_tree.specs.declared.types.Written.{Written}
 use Rattle.rw_tree.specs.declared.pattern.Pat.{Pat}
 use Rattle.rw_parser_grammar.specs.declared.lexeme.Mark.{Mark}
 use Rattle.rw_parser_grammar.specs.declared.lexeme.Lexeme.{Lexeme}
-use Rattle.rw_parser_patterns.specs.Given.{Fails}
+use Rattle.rw_base.specs.Answers.{Fails}
 use Rattle.rw_parser_grammar.specs.Read.{◌>>=◌, Read, sees, separated_at, many_at}
 use Rattle.rw_parser_grammar.specs.ReadTypes.{begins_atype, atype_at, atypes_at, begins_apat, apat_at, apats_at}
 
@@ -19,11 +19,6 @@ with_front front (Some p) = Some (front ++ p.0, p.1)
 pub front_again : {A : Type 0} (front : List A) (a : A) (r : Read (List A)) → with_front (front ++ a ∷ []) r ≡ with_front front (r >>= λ q. Some (a ∷ q.0, q.1))
 front_again front a None = refl
 front_again front a (Some q) = rw append_assoc
-
--- a fault at a part is a fault of the whole
-pub fails_on : {X Y : Type 0} (e : Unread) (part : Option X) (whole : Option Y) → Fails e part → (part ≡ None → whole ≡ None) → Fails e whole
-fails_on fail.OutOfMemory part whole h f = tt
-fails_on fail.NotSpelled part whole h f = f h
 
 module _ {A : Type 0} (between : Mark) (one : List Lexeme → Read A) where
   pub separated_last : (n m : ℕ) (ts : List Lexeme) (front : List A) (a : A) (rest : List Lexeme) → n ≡ m + 1 → one ts ≡ Some (a, rest) → sees between rest ≡ false

@@ -11,7 +11,6 @@ mod parts;
 mod pattern;
 mod token;
 mod types;
-mod unread;
 
 pub use name::{constructor_name, variable_name};
 pub use number::number_tokens;
@@ -19,4 +18,3 @@ pub use parts::added;
 pub use pattern::{apat, apats, begins_apat, patterns, read_pattern};
 pub use token::{after, few, next_spot, rest_of, same_mark, sees, span_at};
 pub use types::{atype, atypes, begins_atype, written_type};
-pub use unread::Unread;

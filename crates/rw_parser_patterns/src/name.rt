@@ -3,11 +3,10 @@
 ghost use Rattle.std.specs.Prelude.{◌≡◌, ◌<◌, ◌≤◌, length, IfOk};
 ghost use Rattle.rw_parser_grammar.specs.ReadClauses as spec;
 ghost use Rattle.rw_parser_grammar.specs.ReadDeclarations as declarations;
-ghost use Rattle.rw_parser_patterns.specs.Given.{Gives};
+ghost use Rattle.rw_base.specs.Answers.{Gives};
 
-use crate::Unread;
 use crate::token::{after, same_mark};
-use rw_base::Name;
+use rw_base::{Name, NotSpelled, Unread};
 use rw_parser_grammar::{Lexeme, Mark, Spot};
 use std::alloc::Global;
 
@@ -21,11 +20,11 @@ pub fn variable_name(alloc: Global, tokens: &[Lexeme]) -> Result<((Spot, Name), 
             if same_mark(*mark, Mark::Opens) {
                 operator_closed(alloc, rest)
             } else {
-                Err(Unread::NotSpelled)
+                Err(Unread::Refused(NotSpelled))
             }
         }
         [Lexeme::Variable(at, name), rest @ ..] => Ok(((*at, name.copied(alloc)?), rest)),
-        _ => Err(Unread::NotSpelled),
+        _ => Err(Unread::Refused(NotSpelled)),
     }
 }
 
@@ -40,7 +39,7 @@ fn operator_closed(alloc: Global, tokens: &[Lexeme]) -> Result<((Spot, Name), &[
             let rest = after(rest, Mark::Closes)?;
             Ok(((*at, name.copied(alloc)?), rest))
         }
-        _ => Err(Unread::NotSpelled),
+        _ => Err(Unread::Refused(NotSpelled)),
     }
 }
 
@@ -52,6 +51,6 @@ pub fn constructor_name(alloc: Global, tokens: &[Lexeme]) -> Result<(Name, &[Lex
 {
     match tokens {
         [Lexeme::Constructor(_, name), rest @ ..] => Ok((name.copied(alloc)?, rest)),
-        _ => Err(Unread::NotSpelled),
+        _ => Err(Unread::Refused(NotSpelled)),
     }
 }

@@ -5,12 +5,11 @@ ghost use Rattle.rw_parser_grammar.specs.Read.{separated_at};
 ghost use Rattle.rw_parser_grammar.specs.ReadTypes as spec;
 ghost use Rattle.rw_parser_grammar.specs.Patterns as grammar;
 ghost use Rattle.rw_parser_grammar.specs.declared.lexeme.Mark.TheVariants as m;
-ghost use Rattle.rw_parser_patterns.specs.Given.{Gives};
+ghost use Rattle.rw_base.specs.Answers.{Gives};
 ghost use Rattle.rw_parser_patterns.specs.Depth.{any_pattern_at};
 
-use crate::Unread;
 use crate::token::{after, few, rest_of, same_mark, sees, span_at};
-use rw_base::{Name, Span};
+use rw_base::{Name, NotSpelled, Span, Unread};
 use rw_parser_grammar::{Lexeme, Mark, Spot};
 use rw_tree::Pat;
 use sqlite_items::Items;
@@ -65,7 +64,7 @@ fn read_pat(alloc: Global, tokens: &[Lexeme]) -> Result<(Pat<Span>, &[Lexeme]), 
             Ok((Pat::Var(span_at(*at, rest), name.copied(alloc)?), rest))
         }
         [Lexeme::Constructor(at, name), rest @ ..] => built(alloc, *at, name, rest),
-        _ => Err(Unread::NotSpelled),
+        _ => Err(Unread::Refused(NotSpelled)),
     }
 }
 
@@ -132,7 +131,7 @@ fn read_apat(alloc: Global, tokens: &[Lexeme]) -> Result<(Pat<Span>, &[Lexeme]),
             Pat::Con(span_at(*at, rest), name.copied(alloc)?, Items::new(alloc)),
             rest,
         )),
-        _ => Err(Unread::NotSpelled),
+        _ => Err(Unread::Refused(NotSpelled)),
     }
 }
 
@@ -153,7 +152,7 @@ fn marked_pattern(
     } else if same_mark(mark, Mark::Underscore) {
         Ok((Pat::Wild(span_at(at, tokens)), tokens))
     } else {
-        Err(Unread::NotSpelled)
+        Err(Unread::Refused(NotSpelled))
     }
 }
 
@@ -189,7 +188,7 @@ fn some_patterns(
     let (parts, rest) = read_patterns(alloc, tokens)?;
     let rest = after(rest, Mark::Closes)?;
     if !few(parts.len()) {
-        return Err(Unread::NotSpelled);
+        return Err(Unread::Refused(NotSpelled));
     }
     Ok((grouped(span_at(at, rest), parts), rest))
 }
@@ -221,5 +220,5 @@ fn read_patterns(alloc: Global, tokens: &[Lexeme]) -> Result<(Items<Pat<Span>>, 
         }
         rest = rest_of(behind);
     }
-    Err(Unread::NotSpelled)
+    Err(Unread::Refused(NotSpelled))
 }

@@ -2,10 +2,9 @@
 ghost use Rattle.std.specs.Prelude.{◌≡◌, ◌≤◌, length, drop, nat_le, IfOk};
 ghost use Rattle.rw_parser_grammar.specs.Read as reads;
 ghost use Rattle.rw_parser_grammar.specs.Lexemes as lexemes;
-ghost use Rattle.rw_parser_patterns.specs.Given.{Gives};
+ghost use Rattle.rw_base.specs.Answers.{Gives};
 
-use crate::Unread;
-use rw_base::{Place, Span};
+use rw_base::{NotSpelled, Place, Span, Unread};
 use rw_parser_grammar::{Lexeme, Mark, Spot};
 
 #[tactic(auto, unfolding(rw_parser_grammar::specs::Read::same_mark))]
@@ -45,7 +44,7 @@ pub fn after(tokens: &[Lexeme], wanted: Mark) -> Result<&[Lexeme], Unread>
     if sees(tokens, wanted) {
         Ok(rest_of(tokens))
     } else {
-        Err(Unread::NotSpelled)
+        Err(Unread::Refused(NotSpelled))
     }
 }
 

@@ -8,14 +8,13 @@ ghost use Rattle.rw_parser_grammar.specs.Types as grammar;
 ghost use Rattle.rw_parser_grammar.specs.Frames.{frames_of_type, most, cut};
 ghost use Rattle.rw_parser_grammar.specs.declared.lexeme.Mark.TheVariants as m;
 ghost use Rattle.rw_parser_patterns.specs.Given as given;
-ghost use Rattle.rw_parser_patterns.specs.Given.{Gives};
+ghost use Rattle.rw_base.specs.Answers.{Gives};
 ghost use Rattle.rw_parser_patterns.specs.Kept as keep;
 ghost use Rattle.rw_parser_patterns.specs.Depth.{any_type_at};
 
-use crate::Unread;
 use crate::parts::added;
 use crate::token::{after, few, rest_of, same_mark, sees};
-use rw_base::OutOfMemory;
+use rw_base::{NotSpelled, OutOfMemory, Unread};
 use rw_parser_grammar::{Lexeme, Mark};
 use rw_tree::Written;
 use sqlite_items::{Boxed, Items};
@@ -83,7 +82,7 @@ fn read_type(
         left = one_less(left);
         rest = rest_of(behind);
     }
-    Err(Unread::NotSpelled)
+    Err(Unread::Refused(NotSpelled))
 }
 
 // The types before the arrows, with one more, where there is room for its arrow.
@@ -219,7 +218,7 @@ fn read_atype(
             if same_mark(*mark, Mark::Opens) {
                 type_group(alloc, room, rest)
             } else {
-                Err(Unread::NotSpelled)
+                Err(Unread::Refused(NotSpelled))
             }
         }
         [Lexeme::Variable(_, name), rest @ ..] => {
@@ -228,7 +227,7 @@ fn read_atype(
         [Lexeme::Constructor(_, name), rest @ ..] => {
             Ok((Some(Written::Con(name.copied(alloc)?)), rest))
         }
-        _ => Err(Unread::NotSpelled),
+        _ => Err(Unread::Refused(NotSpelled)),
     }
 }
 
@@ -263,7 +262,7 @@ fn some_types(
     let (count, parts, rest) = types(alloc, room, tokens)?;
     let rest = after(rest, Mark::Closes)?;
     if !few(count) {
-        return Err(Unread::NotSpelled);
+        return Err(Unread::Refused(NotSpelled));
     }
     Ok((regrouped(parts), rest))
 }
@@ -308,5 +307,5 @@ fn types(
         }
         rest = rest_of(behind);
     }
-    Err(Unread::NotSpelled)
+    Err(Unread::Refused(NotSpelled))
 }

@@ -3,7 +3,7 @@ ghost use Rattle.std.specs.Prelude.{◌≡◌, None, IfOk};
 ghost use Rattle.rw_tree.specs.Declarations.{plain_program};
 ghost use Rattle.rw_scope_rules.specs.Bindings.{bound_program};
 ghost use Rattle.rw_scope_rules.specs.Verdict.{IsScoped, first_broken};
-ghost use Rattle.rw_scope.specs.Judged.{IsJudged};
+ghost use Rattle.rw_base.specs.Answers.{IsJudged};
 ghost use Rattle.rw_scope.specs.Rules.{broken_names, broken_types};
 
 use crate::refuse::refuse;

@@ -2,7 +2,7 @@
 ghost use Rattle.std.specs.Prelude.{None};
 ghost use Rattle.rw_scope_rules.specs.Names.{earliest as first_of};
 ghost use Rattle.rw_scope_rules.specs.Verdict.{broken_first};
-ghost use Rattle.rw_scope.specs.Judged.{IsJudged};
+ghost use Rattle.rw_base.specs.Answers.{IsJudged};
 
 use rw_base::{Fail, Place, Refusal, Rule};
 use rw_scope_names::earliest;

@@ -2,11 +2,11 @@
 use Rattle.std.proofs.Common.{Option, Some, None, Result, Ok, Err, IfOk}
 use Rattle.rw_base.specs.declared.place.Place.{Place}
 use Rattle.rw_base.specs.declared.rule.Rule.{Rule}
-use Rattle.rw_base.specs.declared.fail.Fail.{Fail}
-use Rattle.rw_base.specs.declared.fail.Fail.TheVariants as fail
+use Rattle.rw_base.specs.Answers.{Fail}
+use Rattle.rw_base.specs.declared.fail.Failure.TheVariants as fail
 use Rattle.rw_base.specs.declared.fail.Refusal.{Refusal}
 use Rattle.rw_scope_rules.specs.Verdict.{broken_first}
-use Rattle.rw_start.specs.Judged.{IsJudged}
+use Rattle.rw_base.specs.Answers.{IsJudged}
 
 pub on_ok : {A E : Type 0} {P Q : A → Type 0} (r : Result A E) → ((x : A) → P x → Q x) → IfOk r P → IfOk r Q
 on_ok (Ok x) f h = f x h

@@ -3,7 +3,7 @@ use Rattle.std.proofs.Common.{rules, ◌≡◌, ◌∙◌, ℕ, ◌+◌, refl, s
 use Rattle.rw_base.specs.declared.place.Place.{Place}
 use Rattle.rw_base.specs.declared.rule.Rule.{Rule}
 use Rattle.rw_base.specs.declared.rule.Rule.TheVariants.{E15, E16}
-use Rattle.rw_base.specs.declared.fail.Fail.{Fail}
+use Rattle.rw_base.specs.Answers.{Fail}
 use Rattle.rw_base.specs.declared.fail.Refusal.{Refusal}
 use Rattle.rw_scope_rules.specs.declared.binding.Operation.TheVariants.{Return, Bind, Then, Get, Put, Lift, Signal, Extrude, Par, Refold}
 use Rattle.rw_scope_rules.specs.declared.binding.Binding.{Binding}
@@ -17,7 +17,8 @@ use Rattle.rw_scope_rules.specs.Verdict.{broken_first}
 use Rattle.rw_meaning.specs.Systems.{System, leaf, operated, system_with, with_systems, system_of}
 use Rattle.rw_start.specs.Positions.{inner_nodes, is_stray, misplaced, strays}
 use Rattle.rw_start.specs.Start.{improper_start}
-use Rattle.rw_start.specs.Judged.{IsJudged, IsStarted, applications, first_broken_of_two}
+use Rattle.rw_base.specs.Answers.{IsJudged}
+use Rattle.rw_start.specs.Judged.{IsStarted, applications, first_broken_of_two}
 use Rattle.rw_start.proofs.Found.{parted}
 
 module _ (s : Option ℕ) where

@@ -1,7 +1,7 @@
 -- What the call's answer says of the rules, and when both are kept.
 use Rattle.std.specs.Prelude.{◌≡◌, ℕ, ◌+◌, [], Option, Some, None, Result, Ok, Err}
-use Rattle.rw_base.specs.declared.fail.Fail.{Fail}
-use Rattle.rw_base.specs.declared.fail.Fail.TheVariants as fail
+use Rattle.rw_base.specs.Answers.{Fail}
+use Rattle.rw_base.specs.declared.fail.Failure.TheVariants as fail
 use Rattle.rw_base.specs.declared.fail.Refusal.{Refusal}
 use Rattle.rw_base.specs.declared.rule.Rule.TheVariants.{E15, E16}
 use Rattle.rw_tree.specs.Declarations.{PlainProgram}
@@ -11,12 +11,6 @@ use Rattle.rw_scope_rules.specs.Verdict.{broken_first}
 use Rattle.rw_meaning.specs.Systems.{System, leaf, side_by_side, fed_back}
 use Rattle.rw_start.specs.Start.{improper_start}
 use Rattle.rw_start.specs.Positions.{misplaced}
-
--- the answer is Ok where nothing is broken, and a refusal where this is what is broken; where memory ran out nothing is said
-abbrev pub IsJudged : {A : Type 0} → Option Refusal → Result A Fail → Type 0
-IsJudged found (Ok a) = found ≡ None
-IsJudged found (Err (fail.Refused refusal)) = found ≡ Some refusal
-IsJudged found (Err fail.OutOfMemory) = Unit {0}
 
 -- E15 and E16 hold
 pub record IsStarted (program : PlainProgram Bound) : Type 0 where

@@ -9,7 +9,8 @@ ghost use Rattle.rw_scope_rules.specs.Verdict.{broken_first};
 ghost use Rattle.rw_systems.specs.Shown.{shown};
 ghost use Rattle.rw_start.specs.Start.{improper_start, is_device_if, type_of_start as declared_type};
 ghost use Rattle.rw_start.specs.Positions.{misplaced as misplaced_in, misplaced_with, strays};
-ghost use Rattle.rw_start.specs.Judged.{IsJudged, IsStarted};
+ghost use Rattle.rw_base.specs.Answers.{IsJudged};
+ghost use Rattle.rw_start.specs.Judged.{IsStarted};
 
 use crate::device::is_device;
 use crate::names::{in_decls, in_group};

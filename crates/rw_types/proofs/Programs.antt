@@ -2,8 +2,8 @@
 use Rattle.std.proofs.Common.{◌≡◌, ℕ, zero, suc, ◌+◌, ◌<◌, List, [], ◌∷◌, ◌++◌, map, take, length, get_or, Result, Ok, Err, sym, ◌∙◌, ap, subst, arith, inl, inr}
 use Rattle.std.proofs.lemmas.List.{map-append, take_more}
 use Rattle.rw_base.specs.declared.place.Place.{Place}
-use Rattle.rw_base.specs.declared.fail.Fail.{Fail}
-use Rattle.rw_base.specs.declared.fail.Fail.TheVariants.{Refused, OutOfMemory}
+use Rattle.rw_base.specs.Answers.{Fail}
+use Rattle.rw_base.specs.declared.fail.Failure.TheVariants.{Refused, OutOfMemory}
 use Rattle.rw_scope_rules.specs.declared.binding.Bound.{Bound}
 use Rattle.rw_tree.specs.declared.decl.Decl.{Decl}
 use Rattle.rw_tree.specs.Declarations.{Declaration, declaration}

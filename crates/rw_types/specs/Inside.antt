@@ -1,8 +1,8 @@
 -- What functions inside promise each other: the kinds of numbers, and what solves the equations of a numbered declaration.
 use Rattle.std.specs.Prelude.{◌≡◌, ◌<◌, ℕ, Bool, true, List, map, length, get_or, Result, Ok, Err}
 use Rattle.rw_base.specs.declared.rule.Rule.TheVariants.{E13}
-use Rattle.rw_base.specs.declared.fail.Fail.{Fail}
-use Rattle.rw_base.specs.declared.fail.Fail.TheVariants.{Refused, OutOfMemory}
+use Rattle.rw_base.specs.Answers.{Fail}
+use Rattle.rw_base.specs.declared.fail.Failure.TheVariants.{Refused, OutOfMemory}
 use Rattle.rw_scope_rules.specs.declared.binding.Bound.{Bound}
 use Rattle.rw_tree.specs.declared.decl.Decl.{Decl}
 use Rattle.rw_tree.specs.Declarations.{Declaration, declaration}

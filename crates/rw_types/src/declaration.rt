@@ -4,6 +4,7 @@ ghost use Rattle.rw_tree.specs.Declarations.{declaration};
 ghost use Rattle.rw_types_rules.specs.Typings.{IsTypable, IsDefault};
 ghost use Rattle.rw_types_equations.specs.Seen.{seen_world};
 ghost use Rattle.rw_types.specs.Inferred.{seen};
+ghost use Rattle.rw_base.specs.declared.fail.Failure.TheVariants as fail;
 
 use crate::TypedDecl;
 use crate::own::kinds_at;
@@ -15,7 +16,7 @@ use rw_types_equations::World;
 use rw_types_numbering::{
     assignment_law, erased_law, instance_law, number_declaration, seen_law, typing_law,
 };
-use rw_types_solving::Failure;
+use rw_types_solving::Unsolved;
 use std::alloc::Global;
 
 /// The default typing of a declaration of a program whose names are of these types: the most general one, with leftover
@@ -27,11 +28,11 @@ pub fn infer_declaration(
     alloc: Global,
     decl: &Decl<Bound>,
     world: &World,
-) -> Result<TypedDecl, Failure>
+) -> Result<TypedDecl, Unsolved>
     // Ok: the default typing.
     ensures default { IfOk result (λ made. IsDefault (seen_world world.now) (declaration (λ a. a) decl.now) (seen made)) }
     // Refused: there is no typing.
-    ensures refused { result ≡ Err Failure.Refused → IsTypable (seen_world world.now) (declaration (λ a. a) decl.now) → ⊥ }
+    ensures refused { result ≡ Err (fail.Refused (record {})) → IsTypable (seen_world world.now) (declaration (λ a. a) decl.now) → ⊥ }
 {
     erased_law();
     assignment_law();

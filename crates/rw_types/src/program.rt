@@ -14,7 +14,7 @@ use rw_base::{Fail, Refusal, Rule};
 use rw_scope_rules::Bound;
 use rw_tree::{Decl, Program};
 use rw_types_equations::World;
-use rw_types_solving::Failure;
+use rw_types_solving::Unsolved;
 use rw_types_world::world;
 use sqlite_items::Items;
 use std::alloc::Global;
@@ -25,8 +25,8 @@ fn infer_one(alloc: Global, decl: &Decl<Bound>, world: &World) -> Result<TypedDe
 {
     match infer_declaration(alloc, decl, world) {
         Ok(typed) => Ok(typed),
-        Err(Failure::OutOfMemory) => Err(Fail::OutOfMemory),
-        Err(Failure::Refused) => Err(Fail::Refused(Refusal {
+        Err(Unsolved::OutOfMemory) => Err(Fail::OutOfMemory),
+        Err(Unsolved::Refused(_)) => Err(Fail::Refused(Refusal {
             rule: Rule::E13,
             place: label(decl).span.first,
         })),

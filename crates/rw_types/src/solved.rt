@@ -3,6 +3,7 @@ ghost use Rattle.std.specs.Prelude.{◌≡◌, IfOk, Err};
 ghost use Rattle.rw_types_equations.specs.Seen.{seen_world};
 ghost use Rattle.rw_types.specs.Inferred.{type_of};
 ghost use Rattle.rw_types.specs.Inside.{IsSolved, HasNoSolution};
+ghost use Rattle.rw_base.specs.declared.fail.Failure.TheVariants as fail;
 
 use crate::carried::are_carried;
 use crate::general::general_types;
@@ -10,7 +11,7 @@ use crate::kinds::sorts_of;
 use rw_tree::Decl;
 use rw_types_equations::{Numbered, World};
 use rw_types_rules::VariableKind;
-use rw_types_solving::{Failure, Term, closed_all};
+use rw_types_solving::{NoSolution, Term, Unsolved, closed_all};
 use sqlite_items::Items;
 use std::alloc::Global;
 
@@ -22,13 +23,13 @@ pub fn default_types(
     world: &World,
     slots: &[VariableKind],
     own: &[VariableKind],
-) -> Result<Items<Term>, Failure>
+) -> Result<Items<Term>, Unsolved>
     ensures solved { IfOk result (λ made. IsSolved (seen_world world.now) tree.now slots.now own.now (type_of made)) }
-    ensures refused { result ≡ Err Failure.Refused → HasNoSolution (seen_world world.now) tree.now slots.now own.now }
+    ensures refused { result ≡ Err (fail.Refused (record {})) → HasNoSolution (seen_world world.now) tree.now slots.now own.now }
 {
     let types = general_types(alloc, tree, world, slots.len())?;
     if !are_carried(alloc, types.as_slice(), slots, own)? {
-        return Err(Failure::Refused);
+        return Err(Unsolved::Refused(NoSolution));
     }
     let sorts = sorts_of(alloc, slots)?;
     let closed = closed_all(alloc, types.as_slice(), sorts.as_slice())?;

@@ -1,29 +1,10 @@
 // Why a call of this crate gives no answer.
-ghost use Rattle.rw_types_solving.specs.declared.failure.Failure.TheVariants.{OutOfMemory as WantOfMemory};
-ghost use Rattle.std.specs.Prelude.{◌≡◌};
 
-use rw_base::OutOfMemory;
-use std::alloc::AllocError;
+use rw_base::Failure;
 
-/// Why a call of this crate gives no answer: memory ran out, or there is no solution within the bounds.
+/// There is no solution within the bounds.
 #[derive(Clone, Copy, Debug, PartialEq, Eq)]
-pub enum Failure {
-    OutOfMemory,
-    Refused,
-}
+pub struct NoSolution;
 
-impl From<AllocError> for Failure {
-    ghost from_gives = { λ _ e. e ≡ WantOfMemory };
-
-    fn from(_error: AllocError) -> Failure {
-        Failure::OutOfMemory
-    }
-}
-
-impl From<OutOfMemory> for Failure {
-    ghost from_gives = { λ _ e. e ≡ WantOfMemory };
-
-    fn from(_error: OutOfMemory) -> Failure {
-        Failure::OutOfMemory
-    }
-}
+/// Why a call of this crate gives no answer: there is no solution within the bounds, or memory ran out.
+pub type Unsolved = Failure<NoSolution>;

@@ -16,7 +16,7 @@ mod term;
 
 pub use close::{closed, closed_all};
 pub use condition::{all_hold, is_state_monad};
-pub use failure::Failure;
+pub use failure::{NoSolution, Unsolved};
 pub use table::Table;
 pub use term::{Head, Sort, Term, copied, count, has, instance, top};
 

@@ -4,8 +4,9 @@ ghost use Rattle.std.specs.Option.{option_copied};
 ghost use Rattle.rw_types_solving.specs.Types.{Ty, plain, plains, tys, app};
 ghost use Rattle.rw_types_solving.specs.Tables.{equation, equations, type_at, Follows, Falls};
 ghost use Rattle.rw_types_solving.specs.Inside.{image, size, size_in, ComesTo, ComeTo, IsLarger, AreLarger};
+ghost use Rattle.rw_base.specs.declared.fail.Failure.TheVariants as fail;
 
-use crate::{Failure, Head, Term};
+use crate::{Head, NoSolution, Term, Unsolved};
 use sqlite_items::Items;
 use std::alloc::Global;
 
@@ -52,14 +53,14 @@ pub fn resolved(
     term: &Term,
     entries: &[Option<Term>],
     budget: u32,
-) -> Result<(Term, u32), Failure>
+) -> Result<(Term, u32), Unsolved>
     requires { Falls (equations entries.now) }
     ensures made { IfOk result (λ r. ComesTo (equations entries.now) (plain term.now) (plain r.0)) }
     ensures left { IfOk result (λ r. r.1 + size (plain r.0) ≡ budget) }
-    ensures refused { result ≡ Err Failure.Refused → IsLarger (equations entries.now) budget (plain term.now) }
+    ensures refused { result ≡ Err (fail.Refused (record {})) → IsLarger (equations entries.now) budget (plain term.now) }
 {
     if budget == 0 {
-        return Err(Failure::Refused);
+        return Err(Unsolved::Refused(NoSolution));
     }
     let left = budget - 1;
     match term {
@@ -79,11 +80,11 @@ fn resolved_under(
     parts: &[Term],
     entries: &[Option<Term>],
     budget: u32,
-) -> Result<(Term, u32), Failure>
+) -> Result<(Term, u32), Unsolved>
     requires { Falls (equations entries.now) }
     ensures made { IfOk result (λ r. ComesTo (equations entries.now) (app head (tys (plains parts.now))) (plain r.0)) }
     ensures left { IfOk result (λ r. r.1 + size (plain r.0) ≡ budget + 1) }
-    ensures refused { result ≡ Err Failure.Refused → IsLarger (equations entries.now) (budget + 1) (app head (tys (plains parts.now))) }
+    ensures refused { result ≡ Err (fail.Refused (record {})) → IsLarger (equations entries.now) (budget + 1) (app head (tys (plains parts.now))) }
 {
     match resolved_all(alloc, parts, entries, budget) {
         Ok((all, left)) => Ok((Term::App(head, all), left)),
@@ -97,11 +98,11 @@ fn resolved_all(
     terms: &[Term],
     entries: &[Option<Term>],
     budget: u32,
-) -> Result<(Items<Term>, u32), Failure>
+) -> Result<(Items<Term>, u32), Unsolved>
     requires { Falls (equations entries.now) }
     ensures made { IfOk result (λ r. ComeTo (equations entries.now) (plains terms.now) (plains r.0)) }
     ensures left { IfOk result (λ r. r.1 + size_in (tys (plains r.0)) ≡ budget) }
-    ensures refused { result ≡ Err Failure.Refused → AreLarger (equations entries.now) budget (tys (plains terms.now)) }
+    ensures refused { result ≡ Err (fail.Refused (record {})) → AreLarger (equations entries.now) budget (tys (plains terms.now)) }
 {
     let mut all = Items::new(alloc);
     let mut left = budget;

@@ -5,7 +5,7 @@ ghost use Rattle.rw_types_solving.specs.Tables.{equations, IsTable};
 use crate::close::closed;
 use crate::condition::is_state_monad;
 use crate::differ::{Found, first_difference};
-use crate::{Failure, Head, Sort, Table, Term, copied, count, has, instance, top};
+use crate::{Head, Sort, Table, Term, Unsolved, copied, count, has, instance, top};
 use sqlite_items::Items;
 use std::alloc::Global;
 
@@ -15,14 +15,14 @@ fn leaf(alloc: Global, head: Head) -> Term {
 }
 
 /// A head and one part.
-fn one(alloc: Global, head: Head, part: Term) -> Result<Term, Failure> {
+fn one(alloc: Global, head: Head, part: Term) -> Result<Term, Unsolved> {
     let mut parts = Items::new(alloc);
     parts.push(part)?;
     Ok(Term::App(head, parts))
 }
 
 /// A head and two parts.
-fn two(alloc: Global, head: Head, first: Term, second: Term) -> Result<Term, Failure> {
+fn two(alloc: Global, head: Head, first: Term, second: Term) -> Result<Term, Unsolved> {
     let mut parts = Items::new(alloc);
     parts.push(first)?;
     parts.push(second)?;
@@ -35,13 +35,13 @@ fn unit(alloc: Global) -> Term {
 }
 
 /// Makes two types of the table's variables the same.
-fn join(alloc: Global, table: &mut Table, a: &Term, b: &Term) -> Result<(), Failure>
+fn join(alloc: Global, table: &mut Table, a: &Term, b: &Term) -> Result<(), Unsolved>
     requires { IsTable (equations table.old) }
     ensures { IfOk result (λ _. IsTable (equations table.new)) }
 {
     let variables = table.len() as u64;
     if top(a) > variables || top(b) > variables {
-        return Err(Failure::OutOfMemory);
+        return Err(Unsolved::OutOfMemory);
     }
     table.equate(alloc, a, b)
 }
@@ -53,39 +53,39 @@ fn solved(
     sorts: &[Sort],
     conditions: &[u32],
     states: &[bool],
-) -> Result<Items<Term>, Failure> {
+) -> Result<Items<Term>, Unsolved> {
     if sorts.len() > 100 {
-        return Err(Failure::OutOfMemory);
+        return Err(Unsolved::OutOfMemory);
     }
     let mut table = Table::new(alloc, sorts.len() as u32)?;
     for pair in pairs {
         join(alloc, &mut table, &pair.0, &pair.1)?;
     }
     if sorts.len() != table.len() {
-        return Err(Failure::OutOfMemory);
+        return Err(Unsolved::OutOfMemory);
     }
     table.default(alloc, sorts, conditions, states)
 }
 
 /// Whether the two types are made the same.
-fn meets(alloc: Global, a: Term, b: Term, sorts: &[Sort]) -> Result<bool, Failure> {
+fn meets(alloc: Global, a: Term, b: Term, sorts: &[Sort]) -> Result<bool, Unsolved> {
     let mut pairs = Items::new(alloc);
     pairs.push((a, b))?;
     match solved(alloc, pairs.as_slice(), sorts, &[], &[]) {
         Ok(_) => Ok(true),
-        Err(Failure::Refused) => Ok(false),
+        Err(Unsolved::Refused(_)) => Ok(false),
         Err(failure) => Err(failure),
     }
 }
 
 /// Whether the variable may be a state monad, where it is this type.
-fn is_state(alloc: Global, monad: Term, states: &[bool]) -> Result<bool, Failure> {
+fn is_state(alloc: Global, monad: Term, states: &[bool]) -> Result<bool, Unsolved> {
     let mut pairs = Items::new(alloc);
     pairs.push((Term::Var(0), monad))?;
     let sorts = [Sort::Monad, Sort::Layer, Sort::Monad];
     match solved(alloc, pairs.as_slice(), &sorts, &[0], states) {
         Ok(_) => Ok(true),
-        Err(Failure::Refused) => Ok(false),
+        Err(Unsolved::Refused(_)) => Ok(false),
         Err(failure) => Err(failure),
     }
 }
@@ -99,7 +99,7 @@ fn is_at(types: &Items<Term>, x: usize, term: &Term) -> bool {
 }
 
 /// Pairs of pairs: variable k is a pair of variable k - 1.
-fn chain(alloc: Global, links: u32) -> Result<Items<(Term, Term)>, Failure> {
+fn chain(alloc: Global, links: u32) -> Result<Items<(Term, Term)>, Unsolved> {
     let mut pairs = Items::new(alloc);
     for k in 1..links {
         let pair = two(alloc, Head::Tuple, Term::Var(k - 1), Term::Var(k - 1))?;
@@ -109,18 +109,18 @@ fn chain(alloc: Global, links: u32) -> Result<Items<(Term, Term)>, Failure> {
 }
 
 /// Whether a chain of pairs has a solution, with this type as variable 12.
-fn chain_is_solved(alloc: Global, links: u32, last: Term) -> Result<bool, Failure> {
+fn chain_is_solved(alloc: Global, links: u32, last: Term) -> Result<bool, Unsolved> {
     let mut pairs = chain(alloc, links)?;
     pairs.push((Term::Var(12), last))?;
     match solved(alloc, pairs.as_slice(), &[Sort::Plain; 13], &[], &[]) {
         Ok(_) => Ok(true),
-        Err(Failure::Refused) => Ok(false),
+        Err(Unsolved::Refused(_)) => Ok(false),
         Err(failure) => Err(failure),
     }
 }
 
 #[test]
-fn heads_that_differ_clash(rt: HostRuntime) -> Result<(), Failure> {
+fn heads_that_differ_clash(rt: HostRuntime) -> Result<(), Unsolved> {
     let alloc = rt.alloc();
     let cases = [
         (Head::Tuple, Head::Tuple, true),
@@ -141,7 +141,7 @@ fn heads_that_differ_clash(rt: HostRuntime) -> Result<(), Failure> {
 }
 
 #[test]
-fn a_type_has_no_part_that_is_itself(rt: HostRuntime) -> Result<(), Failure> {
+fn a_type_has_no_part_that_is_itself(rt: HostRuntime) -> Result<(), Unsolved> {
     let alloc = rt.alloc();
     let pair = two(alloc, Head::Tuple, Term::Var(1), Term::Var(0))?;
     assert!(rt; !meets(alloc, Term::Var(0), pair, &[Sort::Plain; 2])?);
@@ -152,7 +152,7 @@ fn a_type_has_no_part_that_is_itself(rt: HostRuntime) -> Result<(), Failure> {
 }
 
 #[test]
-fn a_chain_of_pairs_ends_at_its_tenth_link(rt: HostRuntime) -> Result<(), Failure> {
+fn a_chain_of_pairs_ends_at_its_tenth_link(rt: HostRuntime) -> Result<(), Unsolved> {
     let alloc = rt.alloc();
     let whole = one(alloc, Head::Tuple, Term::Var(9))?;
     assert!(rt; chain_is_solved(alloc, 10, whole)?);
@@ -164,7 +164,7 @@ fn a_chain_of_pairs_ends_at_its_tenth_link(rt: HostRuntime) -> Result<(), Failur
 }
 
 #[test]
-fn lift_goes_through_layers(rt: HostRuntime) -> Result<(), Failure> {
+fn lift_goes_through_layers(rt: HostRuntime) -> Result<(), Unsolved> {
     let alloc = rt.alloc();
     let lower = two(alloc, Head::Layer, Term::Var(1), Term::Var(0))?;
     let lifted = two(alloc, Head::Layer, Term::Var(2), lower)?;
@@ -184,7 +184,7 @@ fn lift_goes_through_layers(rt: HostRuntime) -> Result<(), Failure> {
 }
 
 #[test]
-fn a_state_monad_has_no_other_layers(rt: HostRuntime) -> Result<(), Failure> {
+fn a_state_monad_has_no_other_layers(rt: HostRuntime) -> Result<(), Unsolved> {
     let alloc = rt.alloc();
     let state = one(alloc, Head::StateT, unit(alloc))?;
     let device = two(alloc, Head::ReT, unit(alloc), unit(alloc))?;
@@ -205,7 +205,7 @@ fn a_state_monad_has_no_other_layers(rt: HostRuntime) -> Result<(), Failure> {
 }
 
 #[test]
-fn leftover_variables_are_closed_by_their_sorts(rt: HostRuntime) -> Result<(), Failure> {
+fn leftover_variables_are_closed_by_their_sorts(rt: HostRuntime) -> Result<(), Unsolved> {
     let alloc = rt.alloc();
     let sorts = [Sort::Plain, Sort::Monad, Sort::Layer];
     let types = solved(alloc, &[], &sorts, &[1], &[])?;
@@ -217,7 +217,7 @@ fn leftover_variables_are_closed_by_their_sorts(rt: HostRuntime) -> Result<(), F
 }
 
 #[test]
-fn a_layer_that_is_known_is_one_node_with_its_monad(rt: HostRuntime) -> Result<(), Failure> {
+fn a_layer_that_is_known_is_one_node_with_its_monad(rt: HostRuntime) -> Result<(), Unsolved> {
     let alloc = rt.alloc();
     let state = one(alloc, Head::StateT, unit(alloc))?;
     let known = two(alloc, Head::Layer, state, leaf(alloc, Head::I))?;

@@ -1,9 +1,10 @@
 // Tests of what no clause says: that there is an answer with ample memory, and what short texts spell.
 
+use rw_base::{NotSpelled, Unread};
 use rw_lex::lex;
 use rw_parser_clauses::{read_clause, read_expression, read_locals};
 use rw_parser_grammar::Lexeme;
-use rw_parser_patterns::{Unread, number_tokens};
+use rw_parser_patterns::number_tokens;
 use sqlite_items::Items;
 use std::alloc::Global;
 use std::test::Fail;
@@ -82,6 +83,6 @@ fn a_wildcard_is_no_expression(rt: HostRuntime) -> Result<(), Fail> {
     let alloc = rt.alloc();
     let tokens = spelled(alloc, b"f = _ ;")?;
     let answer = read_clause(alloc, 9, tokens.as_slice());
-    assert!(rt; matches!(&answer, Err(Unread::NotSpelled)));
+    assert!(rt; matches!(&answer, Err(Unread::Refused(NotSpelled))));
     Ok(())
 }

@@ -4,11 +4,11 @@ use rw_base::{Name, Place, Span};
 use rw_scope_rules::Bound;
 use rw_tree::Decl;
 use rw_types_equations::{Numbered, World, most_general_types};
-use rw_types_solving::Failure;
+use rw_types_solving::Unsolved;
 use sqlite_items::Items;
 
 #[test]
-fn an_import_has_the_unit_type(rt: HostRuntime) -> Result<(), Failure> {
+fn an_import_has_the_unit_type(rt: HostRuntime) -> Result<(), Unsolved> {
     let alloc = rt.alloc();
     let first = Place { line: 1, column: 1 };
     let span = Span {

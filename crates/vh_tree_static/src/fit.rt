@@ -7,12 +7,11 @@ ghost use Rattle.vh_tree_static.specs.Rules.{branch_keeps};
 ghost use Rattle.vh_tree_static.specs.Measures.{CalleeOf, CalleeOver, CalleesOf, ItemsFit, assigns_fit, body_keeps, function_vars, known_by, tests_fit, widths_over};
 ghost use Rattle.vh_tree_static.specs.Tables.{known_in};
 
-use crate::VFail;
 use crate::lookup::width_table;
 use crate::table::Table;
 use crate::vars::{add_signals, again, port};
 use crate::widths::{Callee, agree, measure};
-use rw_base::OutOfMemory;
+use rw_base::{OutOfMemory, VFail};
 use sqlite_items::Items;
 use std::alloc::Global;
 use vh_tree::{Branch, Design, Function, Ident, Item, Process, Test, VExpr, VStmt, Var};

@@ -11,7 +11,6 @@ ghost use Rattle.vh_tree.specs.StaticRules.{IsStatic, first_broken};
 
 mod distinct;
 mod drivers;
-mod fail;
 mod fit;
 mod lookup;
 mod names;
@@ -21,7 +20,7 @@ mod table;
 mod vars;
 mod widths;
 
-pub use fail::VFail;
+pub use rw_base::VFail;
 use rw_base::VRule;
 use std::alloc::Global;
 use vh_tree::Design;

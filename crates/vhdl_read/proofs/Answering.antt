@@ -7,9 +7,10 @@ use Rattle.vh_tree.specs.Text.{all_allowed, IsText}
 use Rattle.vh_tree.specs.Spelling.{IsSpelled, SpellsDesign, BreaksBytes, BreaksTokens, BreaksGrammar}
 use Rattle.vh_tree.specs.Scan.{scanned}
 use Rattle.vh_tree.specs.ReadDesign.{design_of}
-use Rattle.vh_tree_static.specs.declared.fail.VFail.{VFail}
-use Rattle.vh_tree_static.specs.declared.fail.VFail.TheVariants as fail
-use Rattle.vhdl_read.specs.Reading.{IsAnswer, IsUnlessMemory}
+use Rattle.rw_base.specs.Answers.{VFail}
+use Rattle.rw_base.specs.declared.fail.Failure.TheVariants as fail
+use Rattle.rw_base.specs.Answers.{IsUnlessMemory}
+use Rattle.vhdl_read.specs.Reading.{IsAnswer}
 
 -- bytes are not both allowed and not
 pub not_both : (bytes : List ℕ) → all_allowed bytes ≡ true → all_allowed bytes ≡ false → ⊥

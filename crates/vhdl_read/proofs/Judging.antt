@@ -8,9 +8,10 @@ use Rattle.vh_tree.specs.Spelling.{IsSpelled, BreaksBytes, BreaksTokens, BreaksG
 use Rattle.vh_tree.specs.Spellable.{IsSpellable}
 use Rattle.vh_tree.specs.Canonical.{canonical_text}
 use Rattle.vh_tree.specs.StaticRules.{IsStatic, first_broken, breaks_names, breaks_widths, breaks_drivers, breaks_order, breaks_ports}
-use Rattle.vh_tree_static.specs.declared.fail.VFail.{VFail}
-use Rattle.vh_tree_static.specs.declared.fail.VFail.TheVariants as fail
-use Rattle.vhdl_read.specs.Reading.{IsRefusal, IsUnlessMemory, BreaksStatic, IsFirstBroken, IsJudgment, unread, kept, broken, unchecked}
+use Rattle.rw_base.specs.Answers.{VFail}
+use Rattle.rw_base.specs.declared.fail.Failure.TheVariants as fail
+use Rattle.rw_base.specs.Answers.{IsUnlessMemory}
+use Rattle.vhdl_read.specs.Reading.{IsRefusal, BreaksStatic, IsFirstBroken, IsJudgment, unread, kept, broken, unchecked}
 use Rattle.vhdl_read.proofs.Answering.{TokensAreScanned, not_both, answer_spelled, answer_bytes, answer_tokens, answer_grammar}
 
 -- the laws of `vh_tree` that are used beside that of tokens

@@ -1,10 +1,10 @@
 -- One turn of the loops over bytes.
 use Rattle.std.proofs.Common.{◌≡◌, ℕ, zero, suc, ◌+◌, ◌*◌, ◌-◌, ◌≤◌, ◌<◌, true, nat_lt, List, [], ◌∷◌, ◌++◌, length, get_or, drop, Option, Some, None, refl, sym, ◌∙◌, ap, append_assoc, append-nil, arith, add-one}
 use Rattle.std.proofs.lemmas.Bool.Decides.{nat_tests}
-use Rattle.vhdl_read.specs.declared.unread.Unread.{Unread}
-use Rattle.vhdl_read.specs.declared.unread.Unread.TheVariants as fail
+use Rattle.rw_base.specs.Answers.{Unread}
+use Rattle.rw_base.specs.declared.fail.Failure.TheVariants as fail
 use Rattle.vh_tree.specs.declared.token.Token.{Token}
-use Rattle.vhdl_read.specs.Given.{Fails}
+use Rattle.rw_base.specs.Answers.{Fails}
 use Rattle.vh_tree.specs.Scan.{◌>>=◌, front, added, tokens_at, scanned, read_on, value_of}
 
 abbrev pub behind_all : List Token → Option (List Token) → Option (List Token)
@@ -40,10 +40,6 @@ pub scan_none : (n : ℕ) (before : List Token) (ts : List ℕ) → n ≡ 0 → 
 unfolding tokens_at
 scan_none n before [] e h = absurd (omega arith)
 scan_none n before (b ∷ bs) e h = rw e
-
-pub fails_on : {X Y : Type 0} (e : Unread) (part : Option X) (whole : Option Y) → Fails e part → (part ≡ None → whole ≡ None) → Fails e whole
-fails_on fail.OutOfMemory part whole h f = tt
-fails_on fail.NotSpelled part whole h f = f h
 
 pub grows : (n : ℕ) (ds : List ℕ) → n ≤ read_on n ds
 grows n [] = omega arith

@@ -1,11 +1,11 @@
 -- One turn of each kind of loop.
 use Rattle.std.proofs.Common.{◌≡◌, ℕ, zero, suc, ◌+◌, Bool, true, false, List, [], ◌∷◌, ◌++◌, drop, Option, Some, None, refl, sym, ◌∙◌, ap, append_assoc, append-nil, add-one, ◌⊎◌, inl, inr, length, ◌<◌, ◌≤◌, get_or, arith}
-use Rattle.vhdl_read.specs.declared.unread.Unread.{Unread}
-use Rattle.vhdl_read.specs.declared.unread.Unread.TheVariants as fail
+use Rattle.rw_base.specs.Answers.{Unread}
+use Rattle.rw_base.specs.declared.fail.Failure.TheVariants as fail
 use Rattle.vh_tree.specs.declared.token.Mark.{Mark}
 use Rattle.vh_tree.specs.declared.token.Token.{Token}
 use Rattle.vh_tree.specs.declared.token.Side.{Side}
-use Rattle.vhdl_read.specs.Given.{Fails}
+use Rattle.rw_base.specs.Answers.{Fails}
 use Rattle.vh_tree.specs.Scan.{◌>>=◌}
 use Rattle.vh_tree.specs.Read.{Read, sees, after, separated_at, many_at, args_at, stmt_at, stmts_at, begins_stmt, choice_levels}
 use Rattle.vh_tree.specs.declared.token.Mark.TheVariants as m
@@ -19,11 +19,6 @@ with_front front (Some p) = Some (front ++ p.0, p.1)
 pub front_again : {A : Type 0} (front : List A) (a : A) (r : Read (List A)) → with_front (front ++ a ∷ []) r ≡ with_front front (r >>= λ q. Some (a ∷ q.0, q.1))
 front_again front a None = refl
 front_again front a (Some q) = rw append_assoc
-
--- a fault at a part is a fault of the whole
-pub fails_on : {X Y : Type 0} (e : Unread) (part : Option X) (whole : Option Y) → Fails e part → (part ≡ None → whole ≡ None) → Fails e whole
-fails_on fail.OutOfMemory part whole h f = tt
-fails_on fail.NotSpelled part whole h f = f h
 
 module _ {A : Type 0} (between : Mark) (one : List Token → Read A) where
   pub separated_last : (n m : ℕ) (ts : List Token) (front : List A) (a : A) (rest : List Token) → n ≡ m + 1 → one ts ≡ Some (a, rest) → sees between rest ≡ false

@@ -1,4 +1,3 @@
 -- The words that contracts rest on.
-pub mod Given
 pub mod Kinds
 pub mod Reading

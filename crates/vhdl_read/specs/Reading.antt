@@ -6,8 +6,8 @@ use Rattle.vh_tree.specs.declared.design.Design.{Design}
 use Rattle.vh_tree.specs.Text.{all_allowed}
 use Rattle.vh_tree.specs.Spelling.{IsSpelled, BreaksBytes, BreaksTokens, BreaksGrammar}
 use Rattle.vh_tree.specs.StaticRules.{IsStatic, first_broken}
-use Rattle.vh_tree_static.specs.declared.fail.VFail.{VFail}
-use Rattle.vh_tree_static.specs.declared.fail.VFail.TheVariants as fail
+use Rattle.rw_base.specs.Answers.{VFail}
+use Rattle.rw_base.specs.declared.fail.Failure.TheVariants as fail
 
 -- the text breaks this rule of spelling, and none before it
 abbrev pub IsBroken : List ℕ → VRule → Type 0
@@ -29,10 +29,6 @@ IsRefusal bytes fail.OutOfMemory = all_allowed bytes ≡ true
 abbrev pub IsAnswer : List ℕ → Result Design VFail → Type 0
 IsAnswer bytes (Ok design) = IsSpelled bytes design
 IsAnswer bytes (Err e) = IsRefusal bytes e
-
--- the answer is this one, unless memory ran out
-abbrev pub IsUnlessMemory : Result Design VFail → Result Design VFail → Type 0
-IsUnlessMemory answer given = (given ≡ answer) ⊎ (given ≡ Err fail.OutOfMemory)
 
 -- the text spells a design, and this is the first static rule that the design breaks
 pub record BreaksStatic (bytes : List ℕ) (rule : VRule) : Type 0 where

@@ -1,11 +1,10 @@
 // Declarations of signals, variables and parameters. The grammar rule stands above each function.
 ghost use Rattle.std.specs.Prelude.{◌≡◌, IfOk, suc};
 ghost use Rattle.vh_tree.specs.ReadDesign as spec;
-ghost use Rattle.vhdl_read.specs.Given.{Gives};
+ghost use Rattle.rw_base.specs.Answers.{Gives};
 
-use crate::Unread;
 use crate::token::{after, after_all, id, number, rest_of, sees};
-use rw_base::OutOfMemory;
+use rw_base::{NotSpelled, OutOfMemory, Unread};
 use sqlite_items::Items;
 use std::alloc::Global;
 use vh_tree::{Ident, Mark, Token, Var};
@@ -20,7 +19,7 @@ fn zero(tokens: &[Token]) -> Result<&[Token], Unread>
     if low == 0 {
         Ok(rest)
     } else {
-        Err(Unread::NotSpelled)
+        Err(Unread::Refused(NotSpelled))
     }
 }
 
@@ -100,7 +99,7 @@ fn param_list(alloc: Global, tokens: &[Token]) -> Result<(Items<Ident>, &[Token]
         }
         rest = rest_of(behind);
     }
-    Err(Unread::NotSpelled)
+    Err(Unread::Refused(NotSpelled))
 }
 
 // [`(` param (`;` param)* `)`]

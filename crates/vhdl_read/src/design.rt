@@ -2,13 +2,13 @@
 ghost use Rattle.std.specs.Prelude.{◌≡◌};
 ghost use Rattle.vh_tree.specs.VToken as mark;
 ghost use Rattle.vh_tree.specs.ReadDesign as spec;
-ghost use Rattle.vhdl_read.specs.Given.{Gives};
+ghost use Rattle.rw_base.specs.Answers.{Gives};
 
-use crate::Unread;
 use crate::declare::vec;
 use crate::item::items;
 use crate::process::processes;
 use crate::token::{after, after_all};
+use rw_base::{NotSpelled, Unread};
 use std::alloc::Global;
 use vh_tree::{Design, Mark, Token};
 
@@ -152,6 +152,6 @@ pub fn whole_design(alloc: Global, tokens: &[Token]) -> Result<Design, Unread>
     if rest.is_empty() {
         Ok(found)
     } else {
-        Err(Unread::NotSpelled)
+        Err(Unread::Refused(NotSpelled))
     }
 }

@@ -1,15 +1,15 @@
 // Expressions, by descent with one token of lookahead. The grammar rule stands above each function.
 ghost use Rattle.std.specs.Prelude.{◌≡◌, length};
-ghost use Rattle.vhdl_read.specs.Given.{Gives};
+ghost use Rattle.rw_base.specs.Answers.{Gives};
 ghost use Rattle.vh_tree.specs.Read.{separated_at};
 ghost use Rattle.vh_tree.specs.Read as spec;
 ghost use Rattle.vh_tree.specs.Grammar.{join_of};
 ghost use Rattle.vh_tree.specs.declared.token.Mark.TheVariants as m;
 
-use crate::Unread;
 use crate::token::{
     after, begins_bits, begins_id, begins_number, bits, name, number, rest_of, sees,
 };
+use rw_base::{NotSpelled, Unread};
 use sqlite_items::Items;
 use std::alloc::Global;
 use vh_tree::{Ident, Mark, Token, VExpr};
@@ -25,7 +25,7 @@ pub fn args(
     ensures { Gives (λ x. (x.0, x.1.now)) result (spec.args_at levels tokens.now) }
 {
     if levels == 0 {
-        return Err(Unread::NotSpelled);
+        return Err(Unread::Refused(NotSpelled));
     }
     exprs(alloc, levels - 1, tokens)
 }
@@ -45,7 +45,7 @@ fn exprs(alloc: Global, levels: usize, tokens: &[Token]) -> Result<(Items<VExpr>
         }
         rest = rest_of(behind);
     }
-    Err(Unread::NotSpelled)
+    Err(Unread::Refused(NotSpelled))
 }
 
 // expr ::= term (`&` term)*, with at most so many levels inside
@@ -84,7 +84,7 @@ fn terms(alloc: Global, levels: usize, tokens: &[Token]) -> Result<(Items<VExpr>
         }
         rest = rest_of(behind);
     }
-    Err(Unread::NotSpelled)
+    Err(Unread::Refused(NotSpelled))
 }
 
 // term ::= ref | string
@@ -135,7 +135,7 @@ fn opened(
     } else if declared {
         call(alloc, levels, name, tokens)
     } else {
-        Err(Unread::NotSpelled)
+        Err(Unread::Refused(NotSpelled))
     }
 }
 

@@ -1,13 +1,13 @@
 // Functions and the declarations of the architecture. The grammar rule stands above each function.
 ghost use Rattle.std.specs.Prelude.{◌≡◌};
 ghost use Rattle.vh_tree.specs.ReadDesign as spec;
-ghost use Rattle.vhdl_read.specs.Given.{Gives};
+ghost use Rattle.rw_base.specs.Answers.{Gives};
 
-use crate::Unread;
 use crate::declare::{head, var};
 use crate::expr::expr;
 use crate::stmt::stmts;
 use crate::token::{after, after_all, id, id_in, sees};
+use rw_base::{NotSpelled, Unread};
 use sqlite_items::Items;
 use std::alloc::Global;
 use vh_tree::{Function, Ident, Item, Mark, Side, Token, VExpr, VStmt};
@@ -23,7 +23,7 @@ fn end<'a>(name: &Ident, tokens: &'a [Token]) -> Result<&'a [Token], Unread>
     if again.as_slice() == name.as_slice() {
         Ok(rest)
     } else {
-        Err(Unread::NotSpelled)
+        Err(Unread::Refused(NotSpelled))
     }
 }
 

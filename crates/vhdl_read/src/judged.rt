@@ -8,16 +8,18 @@ ghost use Rattle.vh_tree.specs.Spelling.{IsSpelled, BreaksBytes};
 ghost use Rattle.vh_tree.specs.Spellable.{IsSpellable};
 ghost use Rattle.vh_tree.specs.StaticRules.{IsStatic};
 ghost use Rattle.vh_tree.specs.Canonical.{canonical_text};
-ghost use Rattle.vh_tree_static.specs.declared.fail.VFail.TheVariants as fail;
-ghost use Rattle.vhdl_read.specs.Reading.{IsUnlessMemory, IsFirstBroken, IsJudgment};
+ghost use Rattle.rw_base.specs.declared.fail.Failure.TheVariants as fail;
+ghost use Rattle.rw_base.specs.Answers.{IsUnlessMemory};
+ghost use Rattle.vhdl_read.specs.Reading.{IsFirstBroken, IsJudgment};
 
 use crate::spelled::read_spelled;
+use rw_base::VFail;
 use std::alloc::Global;
 use vh_tree::{
     Design, first_broken_law, one_design_for_a_text, spellable_designs_are_spelled,
     tokens_are_scanned,
 };
-use vh_tree_static::{VFail, check_static};
+use vh_tree_static::check_static;
 
 // Read, then checked.
 fn judgment(alloc: Global, bytes: &[u8]) -> Result<Design, VFail>

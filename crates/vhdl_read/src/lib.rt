@@ -17,11 +17,9 @@ mod scan;
 mod spelled;
 mod stmt;
 mod token;
-mod unread;
 mod word;
 
 pub use judged::read;
+pub use rw_base::VFail;
 pub use scan::tokens_of;
 pub use spelled::read_spelled;
-pub use unread::Unread;
-pub use vh_tree_static::VFail;

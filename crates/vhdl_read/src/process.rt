@@ -1,11 +1,11 @@
 // Processes. The grammar rule stands above each function.
 ghost use Rattle.std.specs.Prelude.{◌≡◌};
 ghost use Rattle.vh_tree.specs.ReadDesign as spec;
-ghost use Rattle.vhdl_read.specs.Given.{Gives};
+ghost use Rattle.rw_base.specs.Answers.{Gives};
 
-use crate::Unread;
 use crate::stmt::stmts;
 use crate::token::{after_all, rest_of, sees};
+use rw_base::{NotSpelled, Unread};
 use sqlite_items::Items;
 use std::alloc::Global;
 use vh_tree::{Ident, Mark, Process, Side, Token};
@@ -20,7 +20,7 @@ fn sensitive(alloc: Global, tokens: &[Token]) -> Result<(Ident, &[Token]), Unrea
         [Token::Mark(Mark::Clk), rest @ ..] => Ok((Ident::from_slice(alloc, b"clk")?, rest)),
         [Token::Mark(Mark::Rst), rest @ ..] => Ok((Ident::from_slice(alloc, b"rst")?, rest)),
         [Token::Mark(Mark::Inp), rest @ ..] => Ok((Ident::from_slice(alloc, b"inp")?, rest)),
-        _ => Err(Unread::NotSpelled),
+        _ => Err(Unread::Refused(NotSpelled)),
     }
 }
 
@@ -38,7 +38,7 @@ fn names(alloc: Global, tokens: &[Token]) -> Result<(Items<Ident>, &[Token]), Un
         }
         rest = rest_of(behind);
     }
-    Err(Unread::NotSpelled)
+    Err(Unread::Refused(NotSpelled))
 }
 
 // process ::= `process (` sens (`,` sens)* `) begin` stmt* `end process ;`

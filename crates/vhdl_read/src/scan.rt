@@ -4,12 +4,12 @@ ghost use Rattle.rw_base.specs.declared.bit.Bit9.{Bit9};
 ghost use Rattle.vh_tree.specs.declared.token.Token.{Token};
 ghost use Rattle.vh_tree.specs.Text.{IsText};
 ghost use Rattle.vh_tree.specs.Scan as spec;
-ghost use Rattle.vhdl_read.specs.Given.{Gives};
+ghost use Rattle.rw_base.specs.Answers.{Gives};
+ghost use Rattle.rw_base.specs.declared.fail.Failure.TheVariants as fail;
 
-use crate::Unread;
 use crate::class::{Class, first_is, is_white, past, split};
 use crate::word::{number, single, word_token};
-use rw_base::Bit9;
+use rw_base::{Bit9, NotSpelled, Unread};
 use sqlite_items::Items;
 use std::alloc::{AllocError, Global};
 use vh_tree::{Mark, Token, tokens_are_scanned};
@@ -56,7 +56,7 @@ fn string(alloc: Global, text: &[u8]) -> Result<(Option<Token>, &[u8]), Unread>
 {
     let (letters, rest) = split(Class::Bit, text);
     if letters.len() == 0 || !first_is(rest, b'"') {
-        return Err(Unread::NotSpelled);
+        return Err(Unread::Refused(NotSpelled));
     }
     Ok((Some(Token::Bits(bits(alloc, letters)?)), past(rest)))
 }
@@ -77,7 +77,7 @@ fn symbol(b: u8, rest: &[u8]) -> Result<(Mark, &[u8]), Unread>
     }
     match single(b) {
         Some(mark) => Ok((mark, rest)),
-        None => Err(Unread::NotSpelled),
+        None => Err(Unread::Refused(NotSpelled)),
     }
 }
 
@@ -87,7 +87,7 @@ fn front(alloc: Global, text: &[u8]) -> Result<(Option<Token>, &[u8]), Unread>
     ensures { Gives (λ x. (x.0, x.1.now)) result (spec.front text.now) }
 {
     let [b, rest @ ..] = text else {
-        return Err(Unread::NotSpelled);
+        return Err(Unread::Refused(NotSpelled));
     };
     if b.is_ascii_digit() {
         let (digits, behind) = split(Class::Digit, text);
@@ -138,7 +138,7 @@ pub fn scan(alloc: Global, text: &[u8]) -> Result<Items<Token>, Unread>
     if rest.is_empty() {
         Ok(all)
     } else {
-        Err(Unread::NotSpelled)
+        Err(Unread::Refused(NotSpelled))
     }
 }
 
@@ -147,7 +147,7 @@ pub fn scan(alloc: Global, text: &[u8]) -> Result<Items<Token>, Unread>
 pub fn tokens_of(alloc: Global, text: &[u8]) -> Result<Items<Token>, Unread>
     ensures found { IfOk result (λ tokens. IsText text.now tokens) }
     ensures only { IfOk result (λ found. (tokens : List Token) → IsText text.now tokens → tokens ≡ found) }
-    ensures refused { IsErrOf result Unread.NotSpelled → (tokens : List Token) → IsText text.now tokens → ⊥ }
+    ensures refused { IsErrOf result (fail.Refused (record {})) → (tokens : List Token) → IsText text.now tokens → ⊥ }
 {
     tokens_are_scanned();
     scan(alloc, text)

@@ -4,17 +4,16 @@ ghost use Rattle.rw_base.specs.declared.rule.VRule.TheVariants as v;
 ghost use Rattle.vh_tree.specs.declared.design.Design.{Design};
 ghost use Rattle.vh_tree.specs.Text as text;
 ghost use Rattle.vh_tree.specs.Spelling.{IsSpelled, BreaksBytes, BreaksTokens, BreaksGrammar};
-ghost use Rattle.vhdl_read.specs.Reading.{IsAnswer, IsUnlessMemory};
-ghost use Rattle.vh_tree_static.specs.declared.fail.VFail.TheVariants as fail;
+ghost use Rattle.rw_base.specs.Answers.{IsUnlessMemory};
+ghost use Rattle.vhdl_read.specs.Reading.{IsAnswer};
+ghost use Rattle.rw_base.specs.declared.fail.Failure.TheVariants as fail;
 
-use crate::Unread;
 use crate::class::is_allowed;
 use crate::design::whole_design;
 use crate::scan::scan;
-use rw_base::VRule;
+use rw_base::{Unread, VFail, VRule};
 use std::alloc::Global;
 use vh_tree::{Design, designs_are_read, one_design_for_a_text, tokens_are_scanned};
-use vh_tree_static::VFail;
 
 // V1 is kept: every byte may stand in a text.
 fn all_allowed(bytes: &[u8]) -> bool
@@ -33,12 +32,12 @@ fn read_allowed(alloc: Global, bytes: &[u8]) -> Result<Design, VFail>
     designs_are_read();
     let tokens = match scan(alloc, bytes) {
         Ok(tokens) => tokens,
-        Err(Unread::NotSpelled) => return Err(VFail::Refused(VRule::V2)),
+        Err(Unread::Refused(_)) => return Err(VFail::Refused(VRule::V2)),
         Err(Unread::OutOfMemory) => return Err(VFail::OutOfMemory),
     };
     match whole_design(alloc, tokens.as_slice()) {
         Ok(design) => Ok(design),
-        Err(Unread::NotSpelled) => Err(VFail::Refused(VRule::V3)),
+        Err(Unread::Refused(_)) => Err(VFail::Refused(VRule::V3)),
         Err(Unread::OutOfMemory) => Err(VFail::OutOfMemory),
     }
 }

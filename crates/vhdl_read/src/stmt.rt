@@ -1,14 +1,14 @@
 // Statements, by descent with one token of lookahead. The grammar rule stands above each function.
 ghost use Rattle.std.specs.Prelude.{◌≡◌, length};
-ghost use Rattle.vhdl_read.specs.Given.{Gives};
+ghost use Rattle.rw_base.specs.Answers.{Gives};
 ghost use Rattle.vh_tree.specs.Read.{separated_at};
 ghost use Rattle.vh_tree.specs.Read as spec;
 ghost use Rattle.vh_tree.specs.VToken as mark;
 ghost use Rattle.vh_tree.specs.declared.token.Mark.TheVariants as m;
 
-use crate::Unread;
 use crate::expr::{expr, reference};
 use crate::token::{after, bits, rest_of, sees};
+use rw_base::{NotSpelled, Unread};
 use sqlite_items::Items;
 use std::alloc::Global;
 use vh_tree::{Branch, Ident, Mark, Side, Test, Token, VStmt};
@@ -31,7 +31,7 @@ fn target(alloc: Global, at: Side, tokens: &[Token]) -> Result<(Ident, &[Token])
         (Side::Process, [Token::Mark(Mark::Outp), rest @ ..]) => {
             Ok((Ident::from_slice(alloc, b"outp")?, rest))
         }
-        _ => Err(Unread::NotSpelled),
+        _ => Err(Unread::Refused(NotSpelled)),
     }
 }
 
@@ -123,7 +123,7 @@ fn choice(
     ensures { Gives (λ x. ((x.0, x.1), x.2.now)) result (spec.choice_levels at levels tokens.now) }
 {
     if levels == 0 {
-        return Err(Unread::NotSpelled);
+        return Err(Unread::Refused(NotSpelled));
     }
     choice_within(alloc, at, levels - 1, tokens)
 }
@@ -185,7 +185,7 @@ fn branches(
         }
         rest = rest_of(behind);
     }
-    Err(Unread::NotSpelled)
+    Err(Unread::Refused(NotSpelled))
 }
 
 // branch ::= test (`and` test)* `then` stmt*
@@ -219,7 +219,7 @@ fn tests(alloc: Global, levels: usize, tokens: &[Token]) -> Result<(Items<Test>,
         }
         rest = rest_of(behind);
     }
-    Err(Unread::NotSpelled)
+    Err(Unread::Refused(NotSpelled))
 }
 
 // test ::= ref `=` string | `rising_edge ( clk )` | `rst = '1'`

@@ -2,10 +2,9 @@
 ghost use Rattle.std.specs.Prelude.{◌≡◌, drop, IfOk};
 ghost use Rattle.vh_tree.specs.Read as reads;
 ghost use Rattle.vh_tree.specs.ReadDesign as designs;
-ghost use Rattle.vhdl_read.specs.Given.{Gives};
+ghost use Rattle.rw_base.specs.Answers.{Gives};
 
-use crate::Unread;
-use rw_base::{Bit9, OutOfMemory};
+use rw_base::{Bit9, NotSpelled, OutOfMemory, Unread};
 use sqlite_items::Items;
 use std::alloc::Global;
 use vh_tree::{Ident, Mark, Token};
@@ -45,7 +44,7 @@ pub fn after(tokens: &[Token], wanted: Mark) -> Result<&[Token], Unread>
     if sees(tokens, wanted) {
         Ok(rest_of(tokens))
     } else {
-        Err(Unread::NotSpelled)
+        Err(Unread::Refused(NotSpelled))
     }
 }
 
@@ -66,7 +65,7 @@ pub fn number(tokens: &[Token]) -> Result<(u32, &[Token]), Unread>
 {
     match tokens {
         [Token::Number(n), rest @ ..] => Ok((*n, rest)),
-        _ => Err(Unread::NotSpelled),
+        _ => Err(Unread::Refused(NotSpelled)),
     }
 }
 
@@ -75,7 +74,7 @@ pub fn bits(alloc: Global, tokens: &[Token]) -> Result<(Items<Bit9>, &[Token]), 
 {
     match tokens {
         [Token::Bits(bits), rest @ ..] => Ok((copied(alloc, bits.as_slice())?, rest)),
-        _ => Err(Unread::NotSpelled),
+        _ => Err(Unread::Refused(NotSpelled)),
     }
 }
 
@@ -96,7 +95,7 @@ pub fn name(alloc: Global, tokens: &[Token]) -> Result<(Ident, &[Token]), Unread
     match tokens {
         [Token::Id(name), rest @ ..] => Ok((name.copied(alloc)?, rest)),
         [Token::Mark(Mark::Inp), rest @ ..] => Ok((Ident::from_slice(alloc, b"inp")?, rest)),
-        _ => Err(Unread::NotSpelled),
+        _ => Err(Unread::Refused(NotSpelled)),
     }
 }
 
@@ -106,7 +105,7 @@ pub fn id(alloc: Global, tokens: &[Token]) -> Result<(Ident, &[Token]), Unread>
 {
     match tokens {
         [Token::Id(name), rest @ ..] => Ok((name.copied(alloc)?, rest)),
-        _ => Err(Unread::NotSpelled),
+        _ => Err(Unread::Refused(NotSpelled)),
     }
 }
 
@@ -134,6 +133,6 @@ pub fn id_in(tokens: &[Token]) -> Result<(&Ident, &[Token]), Unread>
 {
     match tokens {
         [Token::Id(name), rest @ ..] => Ok((name, rest)),
-        _ => Err(Unread::NotSpelled),
+        _ => Err(Unread::Refused(NotSpelled)),
     }
 }

@@ -4,11 +4,11 @@ ghost use Rattle.std.specs.List.{list_any};
 ghost use Rattle.std.specs.Char.{is_ascii_digit as digit, is_ascii_uppercase, to_ascii_lowercase};
 ghost use Rattle.vh_tree.specs.Text as text;
 ghost use Rattle.vh_tree.specs.Scan as spec;
-ghost use Rattle.vhdl_read.specs.Given.{Gives};
+ghost use Rattle.rw_base.specs.Answers.{Gives};
 ghost use Rattle.vhdl_read.specs.Kinds.{words_from};
 
-use crate::Unread;
 use crate::class::first_is;
+use rw_base::{NotSpelled, Unread};
 use std::alloc::Global;
 use vh_tree::{Ident, Mark, Token};
 
@@ -128,11 +128,11 @@ fn low_word(alloc: Global, word: &[u8]) -> Result<Token, Unread>
         if single_underscores(word) {
             return Ok(Token::Id(Ident::from_slice(alloc, word)?));
         }
-        return Err(Unread::NotSpelled);
+        return Err(Unread::Refused(NotSpelled));
     }
     match word_mark(word) {
         Some(mark) => Ok(Token::Mark(mark)),
-        None => Err(Unread::NotSpelled),
+        None => Err(Unread::Refused(NotSpelled)),
     }
 }
 
@@ -169,10 +169,10 @@ pub fn number(digits: &[u8]) -> Result<u32, Unread>
     ensures { Gives (λ x. x) result (spec.number_of digits.now) }
 {
     if first_is(digits, b'0') && digits.len() > 1 {
-        return Err(Unread::NotSpelled);
+        return Err(Unread::Refused(NotSpelled));
     }
     match number_value(digits) {
         Some(n) => Ok(n),
-        None => Err(Unread::NotSpelled),
+        None => Err(Unread::Refused(NotSpelled)),
     }
 }

@@ -5,7 +5,7 @@ use Rattle.std.proofs.lemmas.Result.{err_from_is_err_and}
 use Rattle.rw_parser_chains.specs.Fixities.{strength_at}
 use Rattle.rw_parser_chains.specs.Grouping.{closed}
 use Rattle.rw_parser_chains.specs.Resolving.{all_of, below_of, fits, chained, expression_made, row_made, guard_made, local_made, statement_made}
-use Rattle.rw_parser_chains.proofs.Steps.{fails_on}
+use Rattle.rw_base.proofs.Answers.{fails_on}
 use Rattle.rw_parser_chains.proofs.Turns.{with_front, all_step, all_fail, all_done}
 use Rattle.rw_parser_fixity.specs.Nodes.{turned}
 use Rattle.rw_parser_fixity.proofs.Chains.{chain_made, unpaired, operand_fails, operator_fails, turn_fails, turns, last_fails, ends}

@@ -4,7 +4,8 @@ use Rattle.std.proofs.lemmas.Result.{err_from_is_err_and}
 use Rattle.explicit_form.specs.Words.{Word, words_of, sees, special}
 use Rattle.explicit_form.specs.Read.{separated_at, arm_at}
 use Rattle.explicit_form.proofs.Budgets.{arms_turns}
-use Rattle.explicit_form.proofs.Turns.{with_front, fails_on, separated_last, separated_step, separated_fail, separated_none}
+use Rattle.rw_base.proofs.Answers.{fails_on}
+use Rattle.explicit_form.proofs.Turns.{with_front, separated_last, separated_step, separated_fail, separated_none}
 use Rattle.explicit_form.proofs.read.read_arms.Goals as goal
 
 pub returns-in_err-one : goal.returns-in_err-one

@@ -5,7 +5,8 @@ use Rattle.rw_lex.specs.declared.token.TokenKind.TheVariants.{Constructor}
 use Rattle.explicit_form.specs.Words.{Word, words_of, sees, operator}
 use Rattle.explicit_form.specs.Read.{separated_at, name_at}
 use Rattle.explicit_form.proofs.Budgets.{constructors_turns}
-use Rattle.explicit_form.proofs.Turns.{with_front, fails_on, separated_last, separated_step, separated_fail, separated_none}
+use Rattle.rw_base.proofs.Answers.{fails_on}
+use Rattle.explicit_form.proofs.Turns.{with_front, separated_last, separated_step, separated_fail, separated_none}
 use Rattle.explicit_form.proofs.read.read_constructors.Goals as goal
 
 pub returns-in_err-one : goal.returns-in_err-one

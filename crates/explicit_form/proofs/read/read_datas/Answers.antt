@@ -4,7 +4,8 @@ use Rattle.std.proofs.lemmas.Result.{err_from_is_err_and}
 use Rattle.explicit_form.specs.Words.{Word, words_of, sees, keyword}
 use Rattle.explicit_form.specs.Read.{many_at, data_at}
 use Rattle.explicit_form.proofs.Budgets.{datas_turns}
-use Rattle.explicit_form.proofs.Turns.{with_front, fails_on, many_step, many_fail, many_done}
+use Rattle.rw_base.proofs.Answers.{fails_on}
+use Rattle.explicit_form.proofs.Turns.{with_front, many_step, many_fail, many_done}
 use Rattle.explicit_form.proofs.read.read_datas.Goals as goal
 use Rattle.explicit_form.proofs.read.read_datas.Goals.{else-loop-turn-test, then-loop-turn-test+then-not-sees}
 

@@ -1,7 +1,8 @@
 use Rattle.std.proofs.Common.{List, subst}
 use Rattle.rw_lex.specs.declared.token.Token.{Token}
 use Rattle.explicit_form.specs.Words.{words_of}
-use Rattle.explicit_form.specs.Read.{Gives, form_at}
+use Rattle.rw_base.specs.Answers.{Gives}
+use Rattle.explicit_form.specs.Read.{form_at}
 use Rattle.explicit_form.proofs.Wholes.{tree_found, tree_refused, tree_only}
 use Rattle.explicit_form.proofs.source.read_tree.Goals as goal
 

@@ -1,7 +1,7 @@
 use Rattle.std.proofs.Common.{List, ℕ, Ok, Err, subst, rules, ◌≡◌}
 use Rattle.rw_base.specs.Outside.{IfTold, Loads}
-use Rattle.rw_base.specs.declared.fail.Fail.{Fail}
-use Rattle.rw_base.specs.declared.fail.Fail.TheVariants as fail
+use Rattle.rw_base.specs.Answers.{Fail}
+use Rattle.rw_base.specs.declared.fail.Failure.TheVariants as fail
 use Rattle.rw_front.specs.Fronts.{Fronts}
 use Rattle.rewire_top.specs.Answers.{most_of_source}
 use Rattle.rewire_top.proofs.Checking.{refused, exactly}

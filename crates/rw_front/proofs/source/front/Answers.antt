@@ -1,5 +1,5 @@
 use Rattle.std.proofs.Common.{subst, rules, ◌≡◌, List, Result}
-use Rattle.rw_base.specs.declared.fail.Fail.{Fail}
+use Rattle.rw_base.specs.Answers.{Fail}
 use Rattle.rw_tree.specs.Declarations.{plain_program}
 use Rattle.rw_tree.specs.declared.program.Program.{Program}
 use Rattle.rw_scope_rules.specs.declared.binding.Bound.{Bound}

@@ -5,7 +5,7 @@ use Rattle.std.proofs.lemmas.List.{take_all, drop_all}
 use Rattle.std.specs.Option.{option_map}
 use Rattle.rw_base.specs.declared.place.Place.{Place}
 use Rattle.rw_lex.specs.declared.token.Token.{Token}
-use Rattle.rw_lex.specs.Tokens.{Answers}
+use Rattle.rw_base.specs.Answers.{Answers}
 use Rattle.rw_layout.specs.Layout.{in_front, layout_from, layout_of, last_place, turn_of, ended}
 use Rattle.rw_layout.specs.Steps.{so_far, turn_behind}
 use Rattle.rw_layout.proofs.Turns.{turn_on, turn_fails, turn_ends, next_token, last_more, fails_on}

@@ -5,7 +5,7 @@ use Rattle.rw_parser_grammar.specs.Frames.{cut}
 use Rattle.rw_parser_grammar.specs.Levels.{max_levels}
 use Rattle.rw_parser_grammar.specs.ReadDeclarations.{begins_signed}
 use Rattle.rw_parser_grammar.specs.ReadLevels.{clause_over, expression_at, locals_at}
-use Rattle.rw_parser_patterns.proofs.Turns.{fails_on}
+use Rattle.rw_base.proofs.Answers.{fails_on}
 use Rattle.rw_parser_items.specs.Kept.{signature_kept}
 use Rattle.rw_parser.specs.Clauses.{frames_of_clause}
 use Rattle.rw_parser.specs.Kept.{named_item_kept}

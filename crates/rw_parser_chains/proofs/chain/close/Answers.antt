@@ -2,7 +2,8 @@
 use Rattle.std.proofs.Common.{◌≡◌, ◌∙◌, ◌∷◌, ◌++◌, [], reverse, ap, sym, option_to_list}
 use Rattle.std.proofs.lemmas.Result.{err_from_is_err_and}
 use Rattle.rw_parser_chains.specs.Grouping.{operated, closed}
-use Rattle.rw_parser_chains.proofs.Steps.{last_first, emptied, fails_on, closed_none, closed_step, closed_fail}
+use Rattle.rw_base.proofs.Answers.{fails_on}
+use Rattle.rw_parser_chains.proofs.Steps.{last_first, emptied, closed_none, closed_step, closed_fail}
 use Rattle.rw_parser_chains.proofs.chain.close.Goals as goal
 
 pub returns-in_err-operand : goal.returns-in_err-operand

@@ -4,7 +4,8 @@ use Rattle.std.proofs.lemmas.Result.{err_from_is_err_and}
 use Rattle.rw_parser_grammar.specs.Chains.{groups_left, groups_right}
 use Rattle.rw_parser_chains.specs.Fixities.{strength_at}
 use Rattle.rw_parser_chains.specs.Grouping.{Counted, Waiting, operated, settled, strength_of}
-use Rattle.rw_parser_chains.proofs.Steps.{last_first, emptied, fails_on, settled_none, settled_step, settled_fail, settled_stays, settled_breaks}
+use Rattle.rw_base.proofs.Answers.{fails_on}
+use Rattle.rw_parser_chains.proofs.Steps.{last_first, emptied, settled_none, settled_step, settled_fail, settled_stays, settled_breaks}
 use Rattle.rw_parser_chains.proofs.chain.settle.Goals as goal
 
 pub returns-then-not-groups_right : goal.returns-then-not-groups_right

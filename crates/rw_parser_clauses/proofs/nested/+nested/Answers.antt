@@ -1,7 +1,7 @@
 -- The turns of the loop over frames, and a block over one level less.
 use Rattle.std.proofs.Common.{rules, ◌≡◌, ℕ, ◌+◌, ◌-◌, Bool, List, ap, sym, ◌∙◌, arith, Some}
 use Rattle.std.proofs.lemmas.Result.{err_from_is_err_and}
-use Rattle.rw_parser_patterns.proofs.Turns.{fails_on}
+use Rattle.rw_base.proofs.Answers.{fails_on}
 use Rattle.rw_parser_parts.specs.declared.frame.Frame.{Frame}
 use Rattle.rw_parser_parts.specs.declared.frame.Step.TheVariants as step
 use Rattle.rw_parser_parts.specs.Steps.{all_closed}

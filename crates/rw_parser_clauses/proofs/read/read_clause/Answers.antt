@@ -3,7 +3,7 @@ use Rattle.std.proofs.Common.{length, arith}
 use Rattle.std.proofs.lemmas.Result.{err_from_is_err_and}
 use Rattle.rw_parser_clauses.specs.Clause.{frames_of_clause}
 use Rattle.rw_parser_clauses.specs.Inside.{clause_inside}
-use Rattle.rw_parser_patterns.proofs.Turns.{fails_on}
+use Rattle.rw_base.proofs.Answers.{fails_on}
 use Rattle.rw_parser_clauses.proofs.Readers.{Found, clause_kept, clause_none, clause_shorter}
 use Rattle.rw_parser_clauses.proofs.read.read_clause.Goals as goal
 

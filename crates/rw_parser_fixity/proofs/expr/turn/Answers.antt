@@ -4,7 +4,8 @@ use Rattle.std.proofs.lemmas.Result.{err_from_is_err_and}
 use Rattle.rw_parser_grammar.specs.Read.{◌>>=◌}
 use Rattle.rw_parser_chains.specs.Fixities.{strength_at}
 use Rattle.rw_parser_chains.specs.Grouping.{settled}
-use Rattle.rw_parser_chains.proofs.Steps.{last_first, fails_on}
+use Rattle.rw_base.proofs.Answers.{fails_on}
+use Rattle.rw_parser_chains.proofs.Steps.{last_first}
 use Rattle.rw_parser_fixity.specs.Nodes.{turned}
 use Rattle.rw_parser_fixity.proofs.expr.turn.Goals as goal
 

@@ -2,7 +2,7 @@
 use Rattle.std.proofs.Common.{◌≡◌, ◌≤◌, ◌+◌, ℕ, List, sym, subst, map, Result}
 use Rattle.std.proofs.lemmas.Result.{err_from_is_err_and}
 use Rattle.rw_base.specs.declared.place.Span.{Span}
-use Rattle.rw_base.specs.declared.fail.Fail.{Fail}
+use Rattle.rw_base.specs.Answers.{Fail}
 use Rattle.rw_tree.specs.declared.decl.Decl.{Decl}
 use Rattle.rw_tree.specs.declared.decl.Decl.TheVariants as d
 use Rattle.rw_tree.specs.Trees.{alternative_of}

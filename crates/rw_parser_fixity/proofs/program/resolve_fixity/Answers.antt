@@ -1,7 +1,7 @@
 -- The whole, from its declarations.
 use Rattle.std.proofs.Common.{◌≡◌, ◌∙◌, ap, Err}
 use Rattle.std.proofs.lemmas.Result.{err_from_is_err_and}
-use Rattle.rw_base.specs.declared.fail.Fail.TheVariants as fail
+use Rattle.rw_base.specs.declared.fail.Failure.TheVariants as fail
 use Rattle.rw_parser_grammar.specs.Chains.{strength_of_name}
 use Rattle.rw_parser_grammar.specs.Resolution.{AreDeclarationsResolved}
 use Rattle.rw_parser_chains.specs.Fixities.{strength_at}

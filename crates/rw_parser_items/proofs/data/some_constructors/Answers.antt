@@ -6,7 +6,7 @@ use Rattle.rw_parser_grammar.specs.Frames.{frames_of_constructor}
 use Rattle.rw_parser_grammar.specs.ReadDeclarations.{data_constructor_at}
 use Rattle.rw_parser_patterns.specs.Given.{counted}
 use Rattle.rw_parser_patterns.specs.Depth.{any_type_at}
-use Rattle.rw_parser_patterns.proofs.Turns.{fails_on}
+use Rattle.rw_base.proofs.Answers.{fails_on}
 use Rattle.rw_parser_patterns.proofs.Kept.{with_counted, counted_last, counted_step, counted_fail, counted_none}
 use Rattle.rw_parser_items.specs.Kept.{data_constructor_kept}
 use Rattle.rw_parser_items.proofs.Kept.{data_constructor_cut}

@@ -2,7 +2,7 @@ use Rattle.std.proofs.Common.{rules, ◌≡◌, length, ◌+◌, ◌-◌, true, 
 use Rattle.std.proofs.lemmas.Result.{err_from_is_err_and}
 use Rattle.rw_parser_grammar.specs.Read.{sees, after}
 use Rattle.rw_parser_grammar.specs.declared.lexeme.Mark.TheVariants as m
-use Rattle.rw_parser_patterns.proofs.Turns.{fails_on}
+use Rattle.rw_base.proofs.Answers.{fails_on}
 use Rattle.rw_parser_parts.proofs.Blocks.{entries_none, entries_end, entries_skip, entries_fail, entries_last, entries_stuck, entries_step}
 use Rattle.rw_parser_parts.proofs.block.entries.Goals as goal
 use Rattle.rw_parser_parts.proofs.block.entries.Goals.{then-sees-2, else-sees-2+in_ok-entry+in_ok-push+else-sees-3+in_ok-rest}

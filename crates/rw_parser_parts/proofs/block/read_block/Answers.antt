@@ -1,7 +1,7 @@
 use Rattle.std.proofs.lemmas.Result.{err_from_is_err_and}
 use Rattle.rw_parser_grammar.specs.Read.{after}
 use Rattle.rw_parser_grammar.specs.declared.lexeme.Mark.TheVariants as m
-use Rattle.rw_parser_patterns.proofs.Turns.{fails_on}
+use Rattle.rw_base.proofs.Answers.{fails_on}
 use Rattle.rw_parser_parts.proofs.Blocks.{block_open, block_none}
 use Rattle.rw_parser_parts.proofs.block.read_block.Goals as goal
 

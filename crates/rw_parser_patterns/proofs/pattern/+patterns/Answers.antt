@@ -5,7 +5,8 @@ use Rattle.rw_parser_grammar.specs.declared.lexeme.Mark.TheVariants as m
 use Rattle.rw_parser_grammar.specs.ReadTypes.{begins_apat, apat_at, pattern_over_at}
 use Rattle.rw_parser_patterns.specs.Depth.{any_pattern_at}
 use Rattle.rw_parser_patterns.proofs.Enough.{any_pattern_over}
-use Rattle.rw_parser_patterns.proofs.Turns.{with_front, fails_on, separated_last, separated_step, separated_fail, separated_none, many_step, many_fail, many_done, apats_turns}
+use Rattle.rw_base.proofs.Answers.{fails_on}
+use Rattle.rw_parser_patterns.proofs.Turns.{with_front, separated_last, separated_step, separated_fail, separated_none, many_step, many_fail, many_done, apats_turns}
 use Rattle.rw_parser_patterns.proofs.pattern.+patterns.Goals as goal
 use Rattle.rw_parser_patterns.proofs.pattern.+patterns.Goals.{read_apats-else-loop-turn-test, read_apats-then-loop-turn-test+then-not-begins_apat}
 

@@ -7,7 +7,8 @@ use Rattle.rw_parser_grammar.specs.ReadTypes.{begins_atype, atype_at}
 use Rattle.rw_parser_patterns.specs.Given.{counted}
 use Rattle.rw_parser_patterns.specs.Depth.{any_type_at}
 use Rattle.rw_parser_patterns.specs.Kept.{side_behind, atype_kept, btype_kept}
-use Rattle.rw_parser_patterns.proofs.Turns.{fails_on, atypes_turns}
+use Rattle.rw_base.proofs.Answers.{fails_on}
+use Rattle.rw_parser_patterns.proofs.Turns.{atypes_turns}
 use Rattle.rw_parser_patterns.proofs.Kept.{with_kept, with_counted, behind_arrows, counted_last, counted_step, counted_fail, counted_none, kept_many_step, kept_many_fail, kept_many_done, atype_cut, arrow_step, arrow_last, arrow_fail, arrow_none}
 use Rattle.rw_parser_patterns.proofs.types.+types.Goals as goal
 use Rattle.rw_parser_patterns.proofs.types.+types.Goals.{read_atypes-else-loop-turn-test, read_atypes-then-loop-turn-test+then-not-begins_atype}

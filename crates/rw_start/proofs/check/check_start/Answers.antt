@@ -6,7 +6,7 @@ use Rattle.rw_scope_rules.specs.Names.{earliest}
 use Rattle.rw_scope_rules.specs.Verdict.{broken_first}
 use Rattle.rw_start.specs.Start.{improper_start}
 use Rattle.rw_start.specs.Positions.{misplaced}
-use Rattle.rw_start.specs.Judged.{IsJudged}
+use Rattle.rw_base.specs.Answers.{IsJudged}
 use Rattle.rw_start.proofs.Answering.{refused_first}
 use Rattle.rw_start.proofs.Counted.{both_judged}
 use Rattle.rw_start.proofs.check.check_start.Goals as goal

@@ -3,7 +3,8 @@ use Rattle.std.proofs.lemmas.Result.{err_from_is_err_and}
 use Rattle.vh_tree.specs.Read.{sees, separated_at}
 use Rattle.vh_tree.specs.Read.{args_at, expr_at, term_at}
 use Rattle.vh_tree.specs.declared.token.Mark.TheVariants as m
-use Rattle.vhdl_read.proofs.Turns.{with_front, fails_on, separated_last, separated_step, separated_fail, separated_none}
+use Rattle.rw_base.proofs.Answers.{fails_on}
+use Rattle.vhdl_read.proofs.Turns.{with_front, separated_last, separated_step, separated_fail, separated_none}
 use Rattle.vhdl_read.proofs.expr.+exprs.Goals as goal
 
 pub exprs-returns-in_err-one : goal.exprs-returns-in_err-one

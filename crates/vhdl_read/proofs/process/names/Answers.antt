@@ -3,7 +3,8 @@ use Rattle.std.proofs.lemmas.Result.{err_from_is_err_and}
 use Rattle.vh_tree.specs.Read.{sees, separated_at}
 use Rattle.vh_tree.specs.ReadDesign.{sensitive_at}
 use Rattle.vh_tree.specs.declared.token.Mark.TheVariants as m
-use Rattle.vhdl_read.proofs.Turns.{with_front, fails_on, separated_last, separated_step, separated_fail, separated_none, names_turns}
+use Rattle.rw_base.proofs.Answers.{fails_on}
+use Rattle.vhdl_read.proofs.Turns.{with_front, separated_last, separated_step, separated_fail, separated_none, names_turns}
 use Rattle.vhdl_read.proofs.process.names.Goals as goal
 
 pub returns-in_err-one : goal.returns-in_err-one

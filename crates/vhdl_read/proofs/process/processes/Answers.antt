@@ -3,7 +3,8 @@ use Rattle.std.proofs.lemmas.Result.{err_from_is_err_and}
 use Rattle.vh_tree.specs.Read.{sees, many_at}
 use Rattle.vh_tree.specs.ReadDesign.{process_at}
 use Rattle.vh_tree.specs.declared.token.Mark.TheVariants as m
-use Rattle.vhdl_read.proofs.Turns.{with_front, fails_on, many_step, many_fail, many_done, processes_turns}
+use Rattle.rw_base.proofs.Answers.{fails_on}
+use Rattle.vhdl_read.proofs.Turns.{with_front, many_step, many_fail, many_done, processes_turns}
 use Rattle.vhdl_read.proofs.process.processes.Goals as goal
 use Rattle.vhdl_read.proofs.process.processes.Goals.{else-loop-turn-test, then-loop-turn-test+then-not-sees}
 

@@ -3,7 +3,8 @@ use Rattle.std.proofs.lemmas.Result.{err_from_is_err_and}
 use Rattle.vh_tree.specs.Read.{sees, separated_at, many_at}
 use Rattle.vh_tree.specs.Read.{args_at, branch_at, stmts_at, stmt_at, choice_levels, begins_stmt}
 use Rattle.vh_tree.specs.declared.token.Mark.TheVariants as m
-use Rattle.vhdl_read.proofs.Turns.{with_front, fails_on, separated_last, separated_step, separated_fail, separated_none, many_step, many_fail, many_done}
+use Rattle.rw_base.proofs.Answers.{fails_on}
+use Rattle.vhdl_read.proofs.Turns.{with_front, separated_last, separated_step, separated_fail, separated_none, many_step, many_fail, many_done}
 use Rattle.vhdl_read.proofs.Turns.{stmts_turns}
 use Rattle.vhdl_read.proofs.stmt.+stmts.Goals as goal
 use Rattle.vhdl_read.proofs.stmt.+stmts.Goals.{stmts-else-loop-turn-test, stmts-then-loop-turn-test+then-not-begins_stmt}

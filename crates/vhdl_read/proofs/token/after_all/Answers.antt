@@ -1,7 +1,8 @@
 -- One mark after another.
 use Rattle.std.proofs.Common.{sym, ◌∙◌, arith}
 use Rattle.std.proofs.lemmas.Result.{err_from_is_err_and}
-use Rattle.vhdl_read.proofs.Turns.{fails_on, after_next, after_missing, after_done}
+use Rattle.rw_base.proofs.Answers.{fails_on}
+use Rattle.vhdl_read.proofs.Turns.{after_next, after_missing, after_done}
 use Rattle.vhdl_read.proofs.token.after_all.Goals as goal
 
 pub returns-in_err-behind : goal.returns-in_err-behind

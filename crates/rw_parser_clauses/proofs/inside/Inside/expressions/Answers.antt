@@ -6,7 +6,8 @@ use Rattle.rw_tree.specs.declared.expr.Expr.{Expr}
 use Rattle.rw_parser_grammar.specs.declared.lexeme.Lexeme.{Lexeme}
 use Rattle.rw_parser_grammar.specs.Read.{Read, sees, separated_at}
 use Rattle.rw_parser_grammar.specs.declared.lexeme.Mark.TheVariants as m
-use Rattle.rw_parser_patterns.proofs.Turns.{with_front, fails_on, separated_last, separated_step, separated_fail, separated_none}
+use Rattle.rw_base.proofs.Answers.{fails_on}
+use Rattle.rw_parser_patterns.proofs.Turns.{with_front, separated_last, separated_step, separated_fail, separated_none}
 use Rattle.rw_parser_parts.specs.Within.{expression_within}
 use Rattle.rw_parser_clauses.proofs.inside.Inside.expressions.Goals as goal
 

@@ -7,7 +7,8 @@ use Rattle.rw_parser_grammar.specs.declared.lexeme.Lexeme.{Lexeme}
 use Rattle.rw_parser_grammar.specs.Read.{Read, sees, many_at}
 use Rattle.rw_parser_grammar.specs.declared.lexeme.Mark.TheVariants as m
 use Rattle.rw_parser_grammar.specs.ReadClauses.{guard_at}
-use Rattle.rw_parser_patterns.proofs.Turns.{with_front, fails_on, many_step, many_fail, many_done}
+use Rattle.rw_base.proofs.Answers.{fails_on}
+use Rattle.rw_parser_patterns.proofs.Turns.{with_front, many_step, many_fail, many_done}
 use Rattle.rw_parser_parts.specs.Within.{expression_within}
 use Rattle.rw_parser_parts.proofs.Blocks.{guards_turns}
 use Rattle.rw_parser_clauses.proofs.inside.Inside.guards.Goals as goal

@@ -7,7 +7,7 @@ use Rattle.rw_parser_grammar.specs.declared.lexeme.Lexeme.{Lexeme}
 use Rattle.rw_parser_grammar.specs.Read.{Read}
 use Rattle.rw_parser_grammar.specs.ReadNames.{begins_op, op_at}
 use Rattle.rw_parser_grammar.specs.ReadExpressions.{begins_last}
-use Rattle.rw_parser_patterns.proofs.Turns.{fails_on}
+use Rattle.rw_base.proofs.Answers.{fails_on}
 use Rattle.rw_parser_parts.specs.Steps.{links_at}
 use Rattle.rw_parser_clauses.specs.Inside.{operand_inside}
 use Rattle.rw_parser_clauses.proofs.Links.{with_links, links_none, links_open, links_fail, links_whole, links_stuck, links_step}
