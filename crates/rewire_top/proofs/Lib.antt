@@ -1,2 +1,3 @@
 mod Loading
+mod Answering
 pub mod Checking

@@ -1,13 +1,9 @@
 // The one call of the program.
-ghost use Rattle.std.specs.Prelude.{◌≡◌, ◌≢◌, ◌⊎◌, ◌++◌, ◌↔◌, ℕ, List, map, string_bytes, None, Some, Err};
-ghost use Rattle.rw_base.specs.declared.rule.Rule.{Rule};
-ghost use Rattle.rw_base.specs.declared.place.Place.{Place};
-ghost use Rattle.rw_base.specs.Outside.{Files, Told, IfTold, Rose, Appended, AppendedPrefix};
-ghost use Rattle.rewire_top.specs.Commands.{command_of, files_of, HoldsAll, ReadsSource, PutsText, WriteFailed, KeepsOthers};
-ghost use Rattle.rewire_top.specs.Answers.{Compiles, CompilesInPart, IsRefusedAs, Simulates, Prints, status_of, IsLater};
+ghost use Rattle.std.specs.Prelude.{◌≡◌, ◌≢◌, ◌⊎◌, ◌↔◌, map, string_bytes, None};
+ghost use Rattle.rw_base.specs.Outside.{Told, Rose, Appended, AppendedPrefix};
+ghost use Rattle.rewire_top.specs.Commands.{command_of};
+ghost use Rattle.rewire_top.specs.Answered.{Answered};
 ghost use Rattle.rewire_top.specs.Printed.{line_of};
-ghost use Rattle.vhdl_bench.specs.declared.fail.BenchFail.{BenchFail};
-ghost use Rattle.vhdl_bench.specs.declared.fail.BenchFail.TheVariants.{OutOfMemory as WantOfMemory};
 
 use crate::Status;
 use crate::check::check;
@@ -55,23 +51,9 @@ fn tell<E: Sink>(alloc: Global, status: Status, err: &mut E) -> Status
 fn answer<S: Store, O: Sink>(alloc: Global, words: &[String], store: &mut S, out: &mut O) -> Status
     ensures usage { (result ≡ Status.Usage) ↔ (command_of (map string_bytes words.now) ≡ None) }
     ensures usage_kept { result ≡ Status.Usage → store.new ≡ store.old }
-    ensures read_fault { result ≡ Status.ReadFault → Rose (S.load_faults store.old) (S.load_faults store.new) }
-    ensures read_fault_sound { S.sound store.old → IfTold (HoldsAll (files_of (command_of (map string_bytes words.now)))) (S.held store.old) → result ≢ Status.ReadFault }
-    ensures write_fault { result ≡ Status.WriteFault → WriteFailed (command_of (map string_bytes words.now)) (Rose (S.save_faults store.old) (S.save_faults store.new)) (Rose (O.faults out.old) (O.faults out.new)) }
-    ensures others { Told (KeepsOthers (command_of (map string_bytes words.now))) (S.held store.old) (S.held store.new) }
-    ensures kept { result ≢ Status.Ok → result ≢ Status.WriteFault → S.held store.new ≡ S.held store.old }
-    ensures ok { result ≡ Status.Ok → Told (Compiles (command_of (map string_bytes words.now))) (S.held store.old) (S.held store.new) }
-    ensures part { result ≡ Status.WriteFault → Told (CompilesInPart (command_of (map string_bytes words.now))) (S.held store.old) (S.held store.new) }
-    ensures refused { (rule : Rule) (place : Place) → result ≡ Status.Refused rule place →
-        ReadsSource (command_of (map string_bytes words.now)) × IfTold (λ files. IsRefusedAs (command_of (map string_bytes words.now)) files rule place) (S.held store.old) }
-    ensures refused_where { (files : Files) (rule : Rule) (place : Place) → S.held store.old ≡ Some files → IsRefusedAs (command_of (map string_bytes words.now)) files rule place →
-        (result ≡ Status.Refused rule place) ⊎ (result ≡ Status.ReadFault) ⊎ (result ≡ Status.OutOfMemory) }
-    ensures no_other { IsLater result → PutsText (command_of (map string_bytes words.now)) }
-    ensures later { (fail : BenchFail) → fail ≢ WantOfMemory → result ≡ status_of fail → IfTold (λ files. Simulates (command_of (map string_bytes words.now)) files (Err fail)) (S.held store.old) }
-    ensures later_where { (files : Files) → S.held store.old ≡ Some files → (fail : BenchFail) → Simulates (command_of (map string_bytes words.now)) files (Err fail) → (result ≡ status_of fail) ⊎ (result ≡ Status.ReadFault) ⊎ (result ≡ Status.OutOfMemory) }
-    ensures shown { result ≡ Status.Ok → (text : List ℕ) × IfTold (Prints (command_of (map string_bytes words.now)) text) (S.held store.old) × Told (Appended text) (O.written out.old) (O.written out.new) }
-    ensures shown_part { result ≡ Status.WriteFault → (text : List ℕ) × IfTold (Prints (command_of (map string_bytes words.now)) text) (S.held store.old) × Told (AppendedPrefix text) (O.written out.old) (O.written out.new) }
-    ensures out_kept { result ≢ Status.Ok → result ≢ Status.WriteFault → O.written out.new ≡ O.written out.old }
+    ensures answered { Answered (command_of (map string_bytes words.now)) (S.sound store.old)
+        (Rose (S.load_faults store.old) (S.load_faults store.new)) (Rose (S.save_faults store.old) (S.save_faults store.new)) (Rose (O.faults out.old) (O.faults out.new))
+        (S.held store.old) (S.held store.new) (O.written out.old) (O.written out.new) result }
 {
     match read_words(words) {
         Asked::Nothing => Status::Usage,
@@ -107,32 +89,10 @@ pub fn rewire<S: Store, O: Sink, E: Sink>(
     ensures usage_where { command_of (map string_bytes words.now) ≡ None → (result ≡ Status.Usage) ⊎ (result ≡ Status.OutOfMemory) }
     ensures usage_kept { command_of (map string_bytes words.now) ≡ None → store.new ≡ store.old }
 
-    // The faults: only where the store's count rose, and never at a load from a sound store that holds the file.
-    ensures read_fault { result ≡ Status.ReadFault → Rose (S.load_faults store.old) (S.load_faults store.new) }
-    ensures read_fault_sound { S.sound store.old → IfTold (HoldsAll (files_of (command_of (map string_bytes words.now)))) (S.held store.old) → result ≢ Status.ReadFault }
-    ensures write_fault { result ≡ Status.WriteFault → WriteFailed (command_of (map string_bytes words.now)) (Rose (S.save_faults store.old) (S.save_faults store.new)) (Rose (O.faults out.old) (O.faults out.new)) }
-
-    // The refusals: in `check`, exactly by the first broken rule of E01 to E16; in `compile`, exactly where the source isn't
-    // of the explicit form; and in `sim`, the first of the text, the trace
-    // and the changes that isn't as it is to be.
-    ensures refused { (rule : Rule) (place : Place) → result ≡ Status.Refused rule place →
-        ReadsSource (command_of (map string_bytes words.now)) × IfTold (λ files. IsRefusedAs (command_of (map string_bytes words.now)) files rule place) (S.held store.old) }
-    ensures refused_where { (files : Files) (rule : Rule) (place : Place) → S.held store.old ≡ Some files → IsRefusedAs (command_of (map string_bytes words.now)) files rule place →
-        (result ≡ Status.Refused rule place) ⊎ (result ≡ Status.ReadFault) ⊎ (result ≡ Status.OutOfMemory) }
-    ensures no_other { IsLater result → PutsText (command_of (map string_bytes words.now)) }
-    ensures later { (fail : BenchFail) → fail ≢ WantOfMemory → result ≡ status_of fail → IfTold (λ files. Simulates (command_of (map string_bytes words.now)) files (Err fail)) (S.held store.old) }
-    ensures later_where { (files : Files) → S.held store.old ≡ Some files → (fail : BenchFail) → Simulates (command_of (map string_bytes words.now)) files (Err fail) → (result ≡ status_of fail) ⊎ (result ≡ Status.ReadFault) ⊎ (result ≡ Status.OutOfMemory) }
-
-    // What stands afterwards.
-    ensures ok { result ≡ Status.Ok → Told (Compiles (command_of (map string_bytes words.now))) (S.held store.old) (S.held store.new) }
-    ensures part { result ≡ Status.WriteFault → Told (CompilesInPart (command_of (map string_bytes words.now))) (S.held store.old) (S.held store.new) }
-    ensures others { Told (KeepsOthers (command_of (map string_bytes words.now))) (S.held store.old) (S.held store.new) }
-    ensures kept { result ≢ Status.Ok → result ≢ Status.WriteFault → S.held store.new ≡ S.held store.old }
-
-    // What is put to `out`, at once: all of it, or a prefix where a put failed; and nothing after any other status.
-    ensures shown { result ≡ Status.Ok → (text : List ℕ) × IfTold (Prints (command_of (map string_bytes words.now)) text) (S.held store.old) × Told (Appended text) (O.written out.old) (O.written out.new) }
-    ensures shown_part { result ≡ Status.WriteFault → (text : List ℕ) × IfTold (Prints (command_of (map string_bytes words.now)) text) (S.held store.old) × Told (AppendedPrefix text) (O.written out.old) (O.written out.new) }
-    ensures out_kept { result ≢ Status.Ok → result ≢ Status.WriteFault → O.written out.new ≡ O.written out.old }
+    // The command: when each other answer comes, what stands afterwards, and what is put to `out`.
+    ensures answered { Answered (command_of (map string_bytes words.now)) (S.sound store.old)
+        (Rose (S.load_faults store.old) (S.load_faults store.new)) (Rose (S.save_faults store.old) (S.save_faults store.new)) (Rose (O.faults out.old) (O.faults out.new))
+        (S.held store.old) (S.held store.new) (O.written out.old) (O.written out.new) result }
 
     // The line goes to `err`.
     ensures silent { result ≡ Status.Ok → E.written err.new ≡ E.written err.old }

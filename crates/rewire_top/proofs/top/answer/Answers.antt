@@ -1,27 +1,25 @@
-use Rattle.std.proofs.Common.{Option, Err, subst, sym}
-use Rattle.rewire_top.specs.Commands.{Command}
-use Rattle.rewire_top.specs.Answers.{IsRefusedAs, Simulates, Prints}
-use Rattle.rw_base.specs.Outside.{IfTold}
+use Rattle.std.proofs.Common.{refl}
+use Rattle.rewire_top.proofs.Answering.{for_command, of_usage, of_check, of_compile, of_sim}
 use Rattle.rewire_top.proofs.top.answer.Goals as goal
 
-pub returns-in-Check-clause-refused_where : goal.returns-in-Check-clause-refused_where
-returns-in-Check-clause-refused_where g c files rule place held refused =
-    c.check.ensures.refused_where files rule place held (subst (λ (o : Option Command). IsRefusedAs o files rule place) (sym c.in-Check.ensures) refused)
+pub returns-in-Check-clause-answered : goal.returns-in-Check-clause-answered
+returns-in-Check-clause-answered g c =
+    let e = c.check.ensures in
+    for_command c.in-Check.ensures
+    (of_check _ _ _ _ _ _ _ _ _ c.in-Check.file.now e.read_fault e.read_fault_sound e.write_fault e.kept refl e.ok e.refused e.refused_where e.no_other)
 
-pub returns-in-Compile-clause-refused_where : goal.returns-in-Compile-clause-refused_where
-returns-in-Compile-clause-refused_where g c files rule place held refused =
-    c.compile.ensures.refused_where files rule place held (subst (λ (o : Option Command). IsRefusedAs o files rule place) (sym c.in-Compile.ensures) refused)
+pub returns-in-Compile-clause-answered : goal.returns-in-Compile-clause-answered
+returns-in-Compile-clause-answered g c =
+    let e = c.compile.ensures in
+    for_command c.in-Compile.ensures
+    (of_compile _ _ _ _ _ _ _ _ _ c.in-Compile.file.now c.in-Compile.target.now e.read_fault e.read_fault_sound e.write_fault e.others e.kept refl e.ok e.part e.refused e.refused_where e.no_other)
 
-pub returns-in-Sim-clause-later_where : goal.returns-in-Sim-clause-later_where
-returns-in-Sim-clause-later_where g c files held fail s =
-    c.sim.ensures.later_where files held fail (subst (λ (o : Option Command). Simulates o files (Err fail)) (sym c.in-Sim.ensures) s)
+pub returns-in-Sim-clause-answered : goal.returns-in-Sim-clause-answered
+returns-in-Sim-clause-answered g c =
+    let e = c.sim.ensures in
+    for_command c.in-Sim.ensures
+    (of_sim _ _ _ _ _ _ _ _ _ c.in-Sim.vhdl.now c.in-Sim.trace.now e.read_fault e.read_fault_sound e.write_fault e.kept e.refused e.later e.later_where e.shown e.shown_part e.out_kept)
 
-pub returns-in-Sim-clause-shown : goal.returns-in-Sim-clause-shown
-returns-in-Sim-clause-shown g c is =
-    let shown = c.sim.ensures.shown is in
-    (shown.0, subst (λ (o : Option Command). IfTold (Prints o shown.0) (g.S.Store.held c.args.store.now)) c.in-Sim.ensures shown.1, shown.2)
-
-pub returns-in-Sim-clause-shown_part : goal.returns-in-Sim-clause-shown_part
-returns-in-Sim-clause-shown_part g c is =
-    let shown = c.sim.ensures.shown_part is in
-    (shown.0, subst (λ (o : Option Command). IfTold (Prints o shown.0) (g.S.Store.held c.args.store.now)) c.in-Sim.ensures shown.1, shown.2)
+pub returns-in-Nothing-clause-answered : goal.returns-in-Nothing-clause-answered
+returns-in-Nothing-clause-answered g c =
+    for_command c.in-Nothing.ensures (of_usage _ _ _ _ _ _ _ _ _ refl refl refl)
