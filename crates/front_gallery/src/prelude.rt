@@ -6,7 +6,6 @@ use rw_base::Fail;
 use rw_front::prelude;
 use rw_prelude::prelude_decls;
 use rw_tree::Program;
-use sqlite_items::Items;
 use std::alloc::Global;
 use std::io::{self, ErrorKind};
 
@@ -22,7 +21,6 @@ fn compare(alloc: Global, source: &[u8]) -> Result<Found, Fail> {
     let spelled = program_of(alloc, source)?;
     let wanted = Program {
         decls: prelude_decls(alloc)?,
-        types: Items::new(alloc),
     };
     Ok(Found {
         spelled: spelled.decls.len(),

@@ -6,7 +6,7 @@
 
 use rw_base::{Name, OutOfMemory, Span};
 use rw_scope_nodes::{Node, nodes};
-use rw_tree::{Alt, Decl, Expr, Pat, Program, Rhs};
+use rw_tree::{Alt, Constructor, DataDecl, Decl, Expr, Pat, Program, Rhs, Written};
 use std::alloc::Global;
 
 fn same_names(names: &[Name], others: &[Name]) -> bool {
@@ -21,15 +21,65 @@ fn same_names(names: &[Name], others: &[Name]) -> bool {
     true
 }
 
+#[cycle(types)]
+fn same_type(written: &Written, other: &Written) -> bool {
+    match (written, other) {
+        (Written::Var(x), Written::Var(y)) => x.is(y.as_slice()),
+        (Written::Con(x), Written::Con(y)) => x.is(y.as_slice()),
+        (Written::Apply(f, xs), Written::Apply(g, ys)) => {
+            same_type(f.get(), g.get()) && same_types(xs.as_slice(), ys.as_slice())
+        }
+        (Written::Fun(a, b), Written::Fun(c, d)) => {
+            same_type(a.get(), c.get()) && same_type(b.get(), d.get())
+        }
+        (Written::Tuple(xs), Written::Tuple(ys)) => same_types(xs.as_slice(), ys.as_slice()),
+        _ => false,
+    }
+}
+
+#[cycle(types)]
+fn same_types(types: &[Written], others: &[Written]) -> bool {
+    if types.len() != others.len() {
+        return false;
+    }
+    for (i, written) in types.iter().enumerate() {
+        if !same_type(written, &others[i]) {
+            return false;
+        }
+    }
+    true
+}
+
+fn same_constructors(made: &[Constructor], others: &[Constructor]) -> bool {
+    if made.len() != others.len() {
+        return false;
+    }
+    for (i, constructor) in made.iter().enumerate() {
+        let other = &others[i];
+        if !constructor.name.is(other.name.as_slice())
+            || !same_types(constructor.fields.as_slice(), other.fields.as_slice())
+        {
+            return false;
+        }
+    }
+    true
+}
+
+fn same_data(data: &DataDecl, other: &DataDecl) -> bool {
+    data.name.is(other.name.as_slice())
+        && same_names(data.params.as_slice(), other.params.as_slice())
+        && same_constructors(data.constructors.as_slice(), other.constructors.as_slice())
+}
+
 // A declaration without its clauses' nodes.
 fn same_declaration(decl: &Decl<Span>, other: &Decl<Span>) -> bool {
     match (decl, other) {
-        (Decl::Data(_, x), Decl::Data(_, y)) => x.is(y),
+        (Decl::Data(_, x), Decl::Data(_, y)) => same_data(x, y),
         (Decl::Fixity(_, s, m, xs), Decl::Fixity(_, t, n, ys)) => {
             s == t && m == n && same_names(xs.as_slice(), ys.as_slice())
         }
         (Decl::Sig(_, xs, t), Decl::Sig(_, ys, u)) => {
-            same_names(xs.as_slice(), ys.as_slice()) && t.is(u)
+            same_names(xs.as_slice(), ys.as_slice()) && same_type(t, u)
         }
         (Decl::Fun(_, x, rows), Decl::Fun(_, y, others)) => {
             x.is(y.as_slice()) && rows.len() == others.len()

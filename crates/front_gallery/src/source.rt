@@ -9,7 +9,6 @@ use rw_prelude::prelude_decls;
 use rw_scope::scope;
 use rw_tree::Program;
 use rw_types::infer;
-use sqlite_items::Items;
 use std::alloc::Global;
 
 // The most bytes of a source.
@@ -46,10 +45,7 @@ fn types_of(alloc: Global, source: &str) -> Result<String, Fail> {
     let parsed = program_of(alloc, source.as_bytes())?;
     let mut decls = prelude_decls(alloc)?;
     decls.append(parsed.decls)?;
-    let program = Program {
-        decls,
-        types: Items::new(alloc),
-    };
+    let program = Program { decls };
     let scoped = scope(alloc, &program)?;
     let typed = infer(alloc, &scoped.program)?;
     let shown = show_last(alloc, typed.as_slice(), program.decls.as_slice())?;

@@ -74,7 +74,7 @@ abbrev pub world_in : List (Declaration TypedNode) → World
 world_in typed = world_of (map (relabelled_declaration (λ a. a.node.span)) typed)
 
 abbrev pub untyped : List (Declaration TypedNode) → PlainProgram Bound
-untyped typed = record { declarations = map erased typed; named_types = [] }
+untyped typed = record { declarations = map erased typed }
 
 abbrev pub columns_of : List (Declaration TypedNode) → List (List Ty)
 columns_of typed = flat_map declaration_columns typed

@@ -60,7 +60,7 @@ IsRead = IsShort then (HasTokens then (IsLaidOut then IsParsed))
 
 -- the declarations of the prelude stand before those of a source
 abbrev pub with_prelude : Program Span → PlainProgram Span
-with_prelude program = plain_program (λ span. span) (record { decls = prelude ++ program.decls; types = program.types })
+with_prelude program = plain_program (λ span. span) (record { decls = prelude ++ program.decls })
 
 -- the place of the declaration of `start`, 1:1 where there is none
 abbrev pub place_of_start : List (Declaration Span) → Place

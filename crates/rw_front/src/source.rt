@@ -27,10 +27,9 @@ pub struct Checked {
 fn whole(alloc: Global, program: Program<Span>) -> Result<Program<Span>, OutOfMemory>
     ensures { IfOk result (λ made. plain_program (λ span. span) made ≡ with_prelude program) }
 {
-    let Program { decls, types } = program;
     let mut all = prelude_decls(alloc)?;
-    all.append(decls)?;
-    Ok(Program { decls: all, types })
+    all.append(program.decls)?;
+    Ok(Program { decls: all })
 }
 
 /// The verdict on a source, `bytes` (Haskell 2010 Report, chapters 2 to 5 and 10, in this project's profile): its program

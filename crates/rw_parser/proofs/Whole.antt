@@ -7,7 +7,6 @@ use Rattle.rw_base.specs.declared.fail.Failure.TheVariants as fail
 use Rattle.rw_base.specs.declared.fail.Refusal.{Refusal}
 use Rattle.rw_base.specs.declared.rule.Rule.TheVariants as rule
 use Rattle.rw_tree.specs.declared.decl.Decl.{Decl}
-use Rattle.rw_tree.specs.declared.types.TyNode.{TyNode}
 use Rattle.rw_tree.specs.declared.program.Program.{Program}
 use Rattle.rw_lex.specs.declared.token.Token.{Token}
 use Rattle.rw_parser_grammar.specs.declared.item.Item.{Item}
@@ -104,14 +103,14 @@ module _ (tokens : List Token) (ts : List Lexeme) (same : ts ≡ lexemes tokens)
   pub broken_parse : (e : Fail) → reading.Answers (Err e) (kept_framed (length tokens) ts (frame_at ts)) → Parses tokens (Err e)
   broken_parse e h = failed (length tokens) tokens e (omega arith) (subst (λ z. reading.Answers (Err e) (kept_framed (length tokens) z (frame_at z))) same h)
 
-  pub whole_parse : (found : Kept) (decls : List (Decl Span)) (types : List TyNode) (result : Result (Program Span) Fail) → kept_framed (length tokens) ts (frame_at ts) ≡ Ok found → decls ≡ closed found.0 → types ≡ []
-      → Grouped (record { decls = decls; types = types }) found.1 result → Parses tokens result
-  whole_parse found decls types result e d t g =
+  pub whole_parse : (found : Kept) (decls : List (Decl Span)) (result : Result (Program Span) Fail) → kept_framed (length tokens) ts (frame_at ts) ≡ Ok found → decls ≡ closed found.0
+      → Grouped (record { decls = decls }) found.1 result → Parses tokens result
+  whole_parse found decls result e d g =
       let f : kept_framed (length tokens) (lexemes tokens) (frame_at (lexemes tokens)) ≡ Ok found = subst (λ z. kept_framed (length tokens) z (frame_at z) ≡ Ok found) same e in
       let items = items_found (length tokens) tokens found (frame_at (lexemes tokens)) refl f in
       let joined : closed found.0 ≡ declarations_of (item_groups (shallow items.items)) = ap (λ z. closed z.0) items.kept_of ∙ kept_declarations items.items in
       let deep : found.1 ≡ first_deep items.items = ap (λ z. z.1) items.kept_of ∙ kept_deep items.items in
-      answered (length tokens) tokens found items (record { decls = decls; types = types }) found.1 result (λ i. record { decls = (d ∙ joined) i; types = t i }) deep g
+      answered (length tokens) tokens found items (record { decls = decls }) found.1 result (λ i. record { decls = (d ∙ joined) i }) deep g
 
 -- ---- grouping
 pub grouped_failed : (program : Program Span) (deep : Option Place) (e : Fail)

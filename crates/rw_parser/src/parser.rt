@@ -27,7 +27,6 @@ use rw_parser_grammar::{Lexeme, Mark};
 use rw_parser_items::header;
 use rw_parser_patterns::{after, next_spot, number_tokens};
 use rw_tree::{Alt, Program};
-use sqlite_items::Items;
 use std::alloc::Global;
 
 // [`module` modname [exports] `where`] `{`: the tokens behind it.
@@ -104,7 +103,6 @@ fn parse_over<R: Fn(&[Lexeme]) -> Result<(Option<(Name, Alt<Span>)>, &[Lexeme]),
     let (joined, deep) = kept_items(alloc, clause, lexemes.as_slice())?;
     let program = Program {
         decls: closed(joined)?,
-        types: Items::new(alloc),
     };
     grouped(alloc, &program, deep)
 }

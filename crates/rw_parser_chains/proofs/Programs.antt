@@ -98,10 +98,10 @@ module _ {strength : List ℕ → Strength} where
   list_one_place (p.later_declaration a b decls at t m more) (p.later_declaration a2 b2 decls2 at2 t2 m2 more2) = list_one_place more more2
 
 pub one_program : {program first second : Program Span} → IsProgramResolved program first → IsProgramResolved program second → first ≡ second
-one_program (p.program_resolved decls others types rs) (p.program_resolved decls2 more types2 ts) = ap (λ z. record { decls = z; types = types }) (one_list rs ts)
+one_program (p.program_resolved decls others rs) (p.program_resolved decls2 more ts) = ap (λ z. record { decls = z }) (one_list rs ts)
 
 pub apart : {program other : Program Span} {at : Place} → IsProgramResolved program other → FirstDeclarationBroken (strength_of_name program.decls) program.decls at → ⊥
-apart (p.program_resolved decls others types rs) broken = list_apart rs broken
+apart (p.program_resolved decls others rs) broken = list_apart rs broken
 
 pub one_place : (program : Program Span) {first second : Place} → FirstDeclarationBroken (strength_of_name program.decls) program.decls first → FirstDeclarationBroken (strength_of_name program.decls) program.decls second → first ≡ second
 one_place program a b = list_one_place a b

@@ -8,7 +8,6 @@ use Rattle.rw_base.specs.declared.fail.Refusal.{Refusal}
 use Rattle.rw_base.specs.declared.rule.Rule.TheVariants as rule
 use Rattle.rw_tree.specs.declared.decl.Decl.{Decl}
 use Rattle.rw_tree.specs.declared.program.Program.{Program}
-use Rattle.rw_tree.specs.declared.types.TyNode.{TyNode}
 use Rattle.rw_parser_grammar.specs.Chains.{Strength, strength_of_name}
 use Rattle.rw_parser_grammar.specs.Resolution.{AreDeclarationsResolved, IsProgramResolved, program_resolved, FirstDeclarationBroken}
 use Rattle.rw_parser_chains.proofs.Programs.{one_program, apart, one_place}
@@ -19,11 +18,11 @@ module _ (program : Program Span) where
   abbrev pub Breaks : Place → Type 0
   Breaks place = FirstDeclarationBroken (strength_of_name program.decls) program.decls place
 
-  pub program_made : (strength : List ℕ → Strength) (decls others : List (Decl Span)) (types : List TyNode) → strength ≡ strength_of_name program.decls → decls ≡ program.decls → types ≡ program.types
-      → AreDeclarationsResolved strength decls others → IsProgramResolved program (record { decls = others; types = types })
-  program_made strength decls others types e f g d =
+  pub program_made : (strength : List ℕ → Strength) (decls others : List (Decl Span)) → strength ≡ strength_of_name program.decls → decls ≡ program.decls
+      → AreDeclarationsResolved strength decls others → IsProgramResolved program (record { decls = others })
+  program_made strength decls others e f d =
       let h : AreDeclarationsResolved (strength_of_name program.decls) program.decls others = subst (λ z. AreDeclarationsResolved z program.decls others) e (subst (λ z. AreDeclarationsResolved strength z others) f d) in
-      subst (λ z. IsProgramResolved program (record { decls = others; types = z })) (sym g) (program_resolved program.decls others program.types h)
+      program_resolved program.decls others h
 
   pub failed : (strength : List ℕ → Strength) (decls : List (Decl Span)) (e : Fail) → strength ≡ strength_of_name program.decls → decls ≡ program.decls
       → Finds (AreDeclarationsResolved strength decls) (FirstDeclarationBroken strength decls) (Err e) → Finds (AreDeclarationsResolved strength decls) Breaks (Err e)

@@ -16,6 +16,7 @@ use crate::clause::clause;
 use rw_base::{Fail, Place, Refusal, Rule, Span};
 use rw_parser_chains::{Fixities, MAX_LEVELS, Unresolved, data_levels, type_levels};
 use rw_tree::{Alt, Decl};
+use rw_tree_copies::{copied_data, copied_names, copied_type};
 use sqlite_items::Items;
 use std::alloc::Global;
 
@@ -62,11 +63,11 @@ fn clause_items(
 }
 
 // A declaration of these levels, which has no chains.
-fn whole(alloc: Global, at: Span, levels: usize, decl: &Decl<Span>) -> Result<Decl<Span>, Fail>
-    ensures { Finds (λ made. (made ≡ decl.now) × (levels + 1 ≤ max_levels)) (λ place. (place ≡ at.first) × (max_levels ≤ levels)) result }
+fn whole(at: Span, levels: usize, decl: Decl<Span>) -> Result<Decl<Span>, Fail>
+    ensures { Finds (λ made. (made ≡ decl) × (levels + 1 ≤ max_levels)) (λ place. (place ≡ at.first) × (max_levels ≤ levels)) result }
 {
     if levels < MAX_LEVELS {
-        Ok(decl.copied(alloc)?)
+        Ok(decl)
     } else {
         Err(refused(at.first))
     }
@@ -77,10 +78,20 @@ fn item(alloc: Global, fixities: &Fixities, decl: &Decl<Span>) -> Result<Decl<Sp
     ensures { Finds (λ made. IsDeclarationResolved (strength_at fixities.now) decl.now made × IsShallow made) (λ at. (others : List (Decl _)) → FirstDeclarationBroken (strength_at fixities.now) (decl.now ∷ others) at) result }
 {
     match decl {
-        Decl::Import(at, _) => whole(alloc, *at, 0, decl),
-        Decl::Data(at, made) => whole(alloc, *at, data_levels(made), decl),
-        Decl::Fixity(at, _, _, _) => whole(alloc, *at, 0, decl),
-        Decl::Sig(at, _, written) => whole(alloc, *at, type_levels(written), decl),
+        Decl::Import(at, name) => whole(*at, 0, Decl::Import(*at, name.copied(alloc)?)),
+        Decl::Data(at, made) => {
+            let copy = copied_data(alloc, made)?;
+            whole(*at, data_levels(made), Decl::Data(*at, copy))
+        }
+        Decl::Fixity(at, side, strength, names) => {
+            let names = copied_names(alloc, names.as_slice())?;
+            whole(*at, 0, Decl::Fixity(*at, *side, *strength, names))
+        }
+        Decl::Sig(at, names, written) => {
+            let names = copied_names(alloc, names.as_slice())?;
+            let copy = copied_type(alloc, written)?;
+            whole(*at, type_levels(written), Decl::Sig(*at, names, copy))
+        }
         Decl::Fun(at, name, rows) => {
             let rows = clause_items(alloc, fixities, rows.as_slice())?;
             Ok(Decl::Fun(*at, name.copied(alloc)?, rows))

@@ -6,6 +6,7 @@ ghost use Rattle.rw_parser_fixity.specs.Nodes as spec;
 use rw_base::{Name, Span};
 use rw_parser_chains::{Counted, Unresolved, above};
 use rw_tree::{Alt, Expr, Local, Pat, Rhs, Stmt, Written};
+use rw_tree_copies::{copied_pattern, copied_patterns, copied_type};
 use sqlite_items::{Boxed, Items};
 use std::alloc::Global;
 
@@ -48,7 +49,7 @@ pub fn abstracted(
 {
     let (body, body_levels) = body;
     let levels = above(pats_levels.max(body_levels))?;
-    let pats = Pat::copied_all(alloc, pats)?;
+    let pats = copied_patterns(alloc, pats)?;
     Ok((Expr::Lambda(at, pats, Boxed::new(alloc, body)?), levels))
 }
 
@@ -114,7 +115,7 @@ pub fn clause_of(
     let (rhs, rhs_levels) = rhs;
     let (wheres, local_levels) = wheres;
     let levels = above(pats_levels.max(rhs_levels.max(local_levels)))?;
-    let pats = Pat::copied_all(alloc, given.pats.as_slice())?;
+    let pats = copied_patterns(alloc, given.pats.as_slice())?;
     let made = Alt {
         at: given.at,
         pats,
@@ -136,7 +137,7 @@ pub fn signature(
 {
     let levels = above(type_levels)?;
     let name = name.copied(alloc)?;
-    Ok((Local::Sig(at, name, written.copied(alloc)?), levels))
+    Ok((Local::Sig(at, name, copied_type(alloc, written)?), levels))
 }
 
 /// A local function.
@@ -174,7 +175,7 @@ pub fn bind(
 {
     let (body, body_levels) = body;
     let levels = above(pat_levels.max(body_levels))?;
-    Ok((Stmt::Bind(at, pat.copied(alloc)?, body), levels))
+    Ok((Stmt::Bind(at, copied_pattern(alloc, pat)?, body), levels))
 }
 
 /// `let` as a statement.

@@ -11,21 +11,10 @@ ghost use Rattle.rw_parser_grammar.specs.Resolution.{IsProgramResolved, FirstDec
 ghost use Rattle.rw_parser_fixity.specs.Found.{Answers};
 
 use crate::items::items;
-use rw_base::{Fail, OutOfMemory, Span};
+use rw_base::{Fail, Span};
 use rw_parser_chains::Fixities;
-use rw_tree::{Program, TyNode};
-use sqlite_items::Items;
+use rw_tree::Program;
 use std::alloc::Global;
-
-fn copied_types(alloc: Global, types: &[TyNode]) -> Result<Items<TyNode>, OutOfMemory>
-    ensures { IfOk result (λ made. made ≡ types.now) }
-{
-    let mut made = Items::new(alloc);
-    for node in types {
-        made.push(node.copied(alloc)?)?;
-    }
-    Ok(made)
-}
 
 /// The program with each chain of operators replaced by the one tree that the fixities of its operators allow: its own
 /// declarations count before those of the prelude, and what is not declared is `infixl 9` (Haskell 2010 Report, sections
@@ -43,6 +32,5 @@ pub fn resolve_fixity(alloc: Global, program: &Program<Span>) -> Result<Program<
     let fixities = Fixities::of(alloc, program.decls.as_slice())?;
     Ok(Program {
         decls: items(alloc, &fixities, program.decls.as_slice())?,
-        types: copied_types(alloc, program.types.as_slice())?,
     })
 }

@@ -164,4 +164,4 @@ pub one_program : (tokens : List Token) (a b : Program Span) → Spells tokens a
 one_program _ _ _ (spells tokens rs firsts f x) (spells others qs seconds g y) =
     let e : rs ≡ qs = one_frame f g in
     let s : firsts ≡ seconds = one_items (frame_ends f) x (subst (λ z. AreItems z seconds) (sym e) y) in
-    ap (λ z. record { decls = declarations_of (item_groups z); types = [] }) s
+    ap (λ z. record { decls = declarations_of (item_groups z) }) s

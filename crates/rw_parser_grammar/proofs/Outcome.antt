@@ -115,7 +115,7 @@ outcome_fails (Err place) at e = cc
 
 -- the program of what was joined
 abbrev pub joined_program : List (Decl Span) × Open → Program Span
-joined_program joined = record { decls = finished d.Fun joined; types = [] }
+joined_program joined = record { decls = finished d.Fun joined }
 
 -- without a frame
 pub no_frame_breaks : (tokens : List Token) (n : ℕ) → length tokens ≤ n → frame_at (lexemes tokens) ≡ None → IsNotOfTheGrammar tokens (first_place (lexemes tokens))
@@ -130,7 +130,7 @@ module _ (n : ℕ) (tokens : List Token) (runs : List (List Lexeme × Lexeme)) (
   spelled items e = program_sound n tokens (of_items items) (unframed n tokens (Some runs) frame ∙ ap program_of e)
 
   joined_is : (items : List Item) (joined : List (Decl Span) × Open) → with_items ([], none_open) (shallow items) ≡ joined → of_items (shallow items) ≡ joined_program joined
-  joined_is items joined e = ap (λ z. record { decls = z; types = [] }) (sym (items_joined (shallow items)) ∙ ap (finished d.Fun) e)
+  joined_is items joined e = ap (λ z. record { decls = z }) (sym (items_joined (shallow items)) ∙ ap (finished d.Fun) e)
 
   -- none is too deep
   pub outcome_spells : (joined : List (Decl Span) × Open) → outcome ([], none_open) None (items_at n runs) ≡ Ok (joined, None) → Spells tokens (joined_program joined)

@@ -148,7 +148,7 @@ pub count_from : (n : ℕ) (tokens : List Token) → length (lexemes_from n toke
 count_from n [] = refl
 count_from n (x ∷ xs) = let h = count_from (n + 1) xs in omega arith
 
-program_ok : (r : Result (List Item) Place) (q : Program Span) → program_of r ≡ Ok q → (items : List Item) × (r ≡ Ok items) × (record { decls = declarations_of (item_groups items); types = [] } ≡ q)
+program_ok : (r : Result (List Item) Place) (q : Program Span) → program_of r ≡ Ok q → (items : List Item) × (r ≡ Ok items) × (record { decls = declarations_of (item_groups items) } ≡ q)
 program_ok (Ok items) q e = (items, refl, cc)
 program_ok (Err at) q e = absurd (cc)
 

@@ -389,7 +389,7 @@ earlier_broken items at place n e b =
     earlier_breaks (Strengths items) items at (split items at n e) place (subst (λ z. FirstDeclarationBroken z (of_items (shallow items)).decls place) (same_strengths items) b)
 
 resolved_parts : {p q : Program Span} → IsProgramResolved p q → (others : List (Decl Span)) × AreDeclarationsResolved (strength_of_name p.decls) p.decls others
-resolved_parts (program_resolved decls others types d) = (others, d)
+resolved_parts (program_resolved decls others d) = (others, d)
 
 pub deep_broken : (items : List Item) (at : Place) (q : Program Span) → NoFunctions items → first_deep items ≡ Some at → IsProgramResolved (of_items (shallow items)) q → FirstDeclarationBroken (Strengths items) (of_items items).decls at
 deep_broken items at q n e r =

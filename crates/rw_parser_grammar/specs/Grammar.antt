@@ -94,7 +94,7 @@ declarations_of (group ∷ groups) = declaration_of group ∷ declarations_of gr
 -- the tokens spell this program, whose chains of operators are not grouped yet
 pub data Spells : List Token → Program Span → Type 0 where
   spells : (tokens : List Token) (runs : List (List Lexeme × Lexeme)) (items : List Item) → IsFrame (lexemes tokens) runs → AreItems runs items
-      → Spells tokens (record { decls = declarations_of (item_groups items); types = [] })
+      → Spells tokens (record { decls = declarations_of (item_groups items) })
 
 -- ---- what is no tree, and where
 

@@ -109,7 +109,7 @@ items_at n ((x ∷ xs, end) ∷ runs) = item_before (next_spot (x ∷ xs)).place
 
 -- the program of items
 abbrev pub program_of : Result (List Item) Place → Result (Program Span) Place
-program_of (Ok items) = Ok (record { decls = declarations_of (item_groups items); types = [] })
+program_of (Ok items) = Ok (record { decls = declarations_of (item_groups items) })
 program_of (Err at) = Err at
 
 -- the program of runs; without them the place of the first token

@@ -10,7 +10,6 @@ use Rattle.rw_tree.specs.declared.decl.Decl.{Decl}
 use Rattle.rw_tree.specs.declared.decl.Decl.TheVariants.{Import, Data, Fixity, Sig, Fun}
 use Rattle.rw_tree.specs.declared.decl.Decl.TheVariants as d
 use Rattle.rw_tree.specs.declared.program.Program.{Program}
-use Rattle.rw_tree.specs.declared.types.TyNode.{TyNode}
 use Rattle.rw_tree.specs.Declarations.{declaration}
 use Rattle.rw_tree.specs.Trees.{alternative_of}
 use Rattle.rw_parser_grammar.specs.Chains.{Strength, strength_of_name}
@@ -36,8 +35,8 @@ pub data AreDeclarationsResolved (strength : List ℕ → Strength) : List (Decl
 
 -- a program with its chains grouped, of at most 512 levels
 pub data IsProgramResolved : Program Span → Program Span → Type 0 where
-  program_resolved : (decls others : List (Decl Span)) (types : List TyNode) → AreDeclarationsResolved (strength_of_name decls) decls others
-      → IsProgramResolved (record { decls = decls; types = types }) (record { decls = others; types = types })
+  program_resolved : (decls others : List (Decl Span)) → AreDeclarationsResolved (strength_of_name decls) decls others
+      → IsProgramResolved (record { decls = decls }) (record { decls = others })
 
 -- ---- what has no tree, and where
 

@@ -16,7 +16,7 @@ use Rattle.rw_parser_grammar.specs.Frames.{frames_of_item}
 
 -- the program of items
 abbrev pub of_items : List Item → Program Span
-of_items items = record { decls = declarations_of (item_groups items); types = [] }
+of_items items = record { decls = declarations_of (item_groups items) }
 
 abbrev pub is_fixity_declaration : Decl Span → Bool
 is_fixity_declaration (Import span name) = false

@@ -109,5 +109,5 @@ module _ (tops : Tops) where
 
 pub program_same : (program : PlainProgram Span) → spanned_program (bound_program program) ≡ program
 program_same program =
-    let whole : List (Declaration Span) → PlainProgram Span = λ ds. record { declarations = ds; named_types = program.named_types } in
+    let whole : List (Declaration Span) → PlainProgram Span = λ ds. record { declarations = ds } in
     ap whole (declarations_same (tops_of program.declarations) 0 program.declarations)

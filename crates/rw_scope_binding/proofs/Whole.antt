@@ -2,7 +2,6 @@
 use Rattle.std.proofs.Common.{◌≡◌, List, map, refl, ap, ◌∙◌}
 use Rattle.rw_base.specs.declared.place.Span.{Span}
 use Rattle.rw_tree.specs.declared.decl.Decl.{Decl}
-use Rattle.rw_tree.specs.declared.types.TyNode.{TyNode}
 use Rattle.rw_tree.specs.Declarations.{Declaration, declaration, PlainProgram}
 use Rattle.rw_scope_rules.specs.declared.binding.Bound.{Bound}
 use Rattle.rw_scope_rules.specs.Names.{Bytes, first_named}
@@ -11,17 +10,17 @@ use Rattle.rw_scope_binding.specs.declared.tops.Tops.{Tops as Table}
 use Rattle.rw_scope_binding.specs.Numbered.{known}
 use Rattle.rw_scope_binding.proofs.Alike.{declarations_alike}
 
-pub program_bound : (table : Table) (decls first second : List (Decl Span)) (types ts ts' : List TyNode) (made : List (Declaration Bound)) → first ≡ decls → second ≡ decls → ts ≡ types → ts' ≡ ts
+pub program_bound : (table : Table) (decls first second : List (Decl Span)) (made : List (Declaration Bound)) → first ≡ decls → second ≡ decls
     → ((x : Bytes) → first_named x table.variables ≡ first_named x (tops_of (map (declaration (λ a. a)) first)).variables)
     → ((x : Bytes) → first_named x table.constructors ≡ first_named x (tops_of (map (declaration (λ a. a)) first)).constructors)
     → made ≡ bound_declarations (known table) 0 (map (declaration (λ a. a)) second)
-    → (let bound : PlainProgram Bound = record { declarations = made; named_types = ts' } in bound)
-    ≡ bound_program (record { declarations = map (declaration (λ a. a)) decls; named_types = types })
-program_bound table decls first second types ts ts' made first_is second_is ts_is ts'_is variables constructors is =
+    → (let bound : PlainProgram Bound = record { declarations = made } in bound)
+    ≡ bound_program (record { declarations = map (declaration (λ a. a)) decls })
+program_bound table decls first second made first_is second_is variables constructors is =
     let whole : made ≡ bound_declarations (tops_of (map (declaration (λ a. a)) decls)) 0 (map (declaration (λ a. a)) decls) =
     is ∙ ap (λ ds. bound_declarations (known table) 0 (map (declaration (λ a. a)) ds)) second_is
     ∙ declarations_alike (known table) (tops_of (map (declaration (λ a. a)) decls))
     (λ x. variables x ∙ ap (λ ds. first_named x (tops_of (map (declaration (λ a. a)) ds)).variables) first_is)
     (λ x. constructors x ∙ ap (λ ds. first_named x (tops_of (map (declaration (λ a. a)) ds)).constructors) first_is)
     0 (map (declaration (λ a. a)) decls) in
-    rw (whole, ts'_is, ts_is) refl
+    rw whole refl

@@ -80,4 +80,4 @@ spanned_declaration (signature_declaration a names type) = signature_declaration
 spanned_declaration (function_declaration a x clauses) = function_declaration a.span x (map spanned_clause clauses)
 
 abbrev pub spanned_program : PlainProgram Bound → PlainProgram Span
-spanned_program program = record { declarations = map spanned_declaration program.declarations; named_types = program.named_types }
+spanned_program program = record { declarations = map spanned_declaration program.declarations }

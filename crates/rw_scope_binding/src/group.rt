@@ -13,6 +13,7 @@ use crate::tops::{Tops, own_binding};
 use rw_base::{OutOfMemory, Span};
 use rw_scope_rules::{Binding, Bound};
 use rw_tree::Local;
+use rw_tree_copies::copied_type;
 use sqlite_items::Items;
 use std::alloc::Global;
 
@@ -56,7 +57,7 @@ fn bind_local(
         Local::Sig(at, name, written) => {
             let binding = own_binding(outer, scope, name);
             let name = name.copied(alloc)?;
-            Ok(Local::Sig(bound_to(*at, binding), name, written.copied(alloc)?))
+            Ok(Local::Sig(bound_to(*at, binding), name, copied_type(alloc, written)?))
         }
         Local::Fun(at, name, clauses) => {
             let binding = Binding::Local(next(number)?);

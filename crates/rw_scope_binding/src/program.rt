@@ -9,31 +9,12 @@ use crate::clause::bind_clauses;
 use crate::fill::fill;
 use crate::locals::Locals;
 use crate::tops::Tops;
-use rw_base::{Name, OutOfMemory, Span};
+use rw_base::{OutOfMemory, Span};
 use rw_scope_rules::{Binding, Bound};
-use rw_tree::{Decl, Program, TyNode};
+use rw_tree::{Decl, Program};
+use rw_tree_copies::{copied_data, copied_names, copied_type};
 use sqlite_items::Items;
 use std::alloc::Global;
-
-fn copied_names(alloc: Global, names: &[Name]) -> Result<Items<Name>, OutOfMemory>
-    ensures { IfOk result (λ copies. copies ≡ names.now) }
-{
-    let mut copies = Items::new(alloc);
-    for name in names {
-        copies.push(name.copied(alloc)?)?;
-    }
-    Ok(copies)
-}
-
-fn copied_types(alloc: Global, types: &[TyNode]) -> Result<Items<TyNode>, OutOfMemory>
-    ensures { IfOk result (λ copies. copies ≡ types.now) }
-{
-    let mut copies = Items::new(alloc);
-    for node in types {
-        copies.push(node.copied(alloc)?)?;
-    }
-    Ok(copies)
-}
 
 // The declaration with this number. Only a function has names that are bound.
 fn bind_decl(
@@ -46,14 +27,14 @@ fn bind_decl(
 {
     match decl {
         Decl::Import(at, name) => Ok(Decl::Import(unnamed(*at), name.copied(alloc)?)),
-        Decl::Data(at, made) => Ok(Decl::Data(unnamed(*at), made.copied(alloc)?)),
+        Decl::Data(at, made) => Ok(Decl::Data(unnamed(*at), copied_data(alloc, made)?)),
         Decl::Fixity(at, side, strength, names) => {
             let names = copied_names(alloc, names.as_slice())?;
             Ok(Decl::Fixity(unnamed(*at), *side, *strength, names))
         }
         Decl::Sig(at, names, written) => {
             let names = copied_names(alloc, names.as_slice())?;
-            Ok(Decl::Sig(unnamed(*at), names, written.copied(alloc)?))
+            Ok(Decl::Sig(unnamed(*at), names, copied_type(alloc, written)?))
         }
         Decl::Fun(at, name, clauses) => {
             let name = name.copied(alloc)?;
@@ -88,6 +69,5 @@ pub fn bind(alloc: Global, program: &Program<Span>) -> Result<Program<Bound>, Ou
 {
     let tops = fill(alloc, program.decls.as_slice())?;
     let decls = bind_decls(alloc, &tops, program.decls.as_slice())?;
-    let types = copied_types(alloc, program.types.as_slice())?;
-    Ok(Program { decls, types })
+    Ok(Program { decls })
 }

@@ -240,7 +240,4 @@ module _ (tops : Tops) where
 
 -- a program with each of its names bound, or with `None` where there is nothing that it could be bound to
 abbrev pub bound_program : PlainProgram Span → PlainProgram Bound
-bound_program program = record {
-  declarations = bound_declarations (tops_of program.declarations) 0 program.declarations;
-  named_types = program.named_types;
-}
+bound_program program = record { declarations = bound_declarations (tops_of program.declarations) 0 program.declarations }

@@ -1,4 +1,2 @@
--- Lemmas: the plain form of each variant and the parts of equal trees, which callers cite, and lists that loops go over.
+-- Lemmas: the plain form of each variant, which callers cite.
 pub mod Plains
-pub mod Parts
-mod Lists

@@ -5,7 +5,6 @@ use Rattle.rw_tree.specs.declared.decl.Side.{Side}
 use Rattle.rw_tree.specs.declared.decl.Decl.{Decl}
 use Rattle.rw_tree.specs.declared.decl.Decl.TheVariants.{Import, Data, Fixity, Sig, Fun}
 use Rattle.rw_tree.specs.declared.program.Program.{Program}
-use Rattle.rw_tree.specs.declared.types.TyNode.{TyNode}
 use Rattle.rw_tree.specs.Types.{WrittenType, written, writtens}
 use Rattle.rw_tree.specs.Trees.{Alternative, alternative_of}
 
@@ -22,10 +21,9 @@ pub data Declaration (X : Type 0) : Type 0 where
   signature_declaration : X → List (List ℕ) → WrittenType → Declaration X
   function_declaration : X → List ℕ → List (Alternative X) → Declaration X
 
--- a program: its declarations, and the types that its nodes name by number
+-- a program: its declarations, in order
 pub record PlainProgram (X : Type 0) : Type 0 where
   pub declarations : List (Declaration X)
-  pub named_types : List TyNode
 
 -- the plain form of a constructor
 abbrev pub plain_constructor : Constructor → PlainConstructor
@@ -41,4 +39,4 @@ declaration see (Fun a name clauses) = function_declaration (see a) name (map (a
 
 -- the plain form of a program, with what is seen of each annotation
 abbrev pub plain_program : {A X : Type 0} → (A → X) → Program A → PlainProgram X
-plain_program see program = record { declarations = map (declaration see) program.decls; named_types = program.types }
+plain_program see program = record { declarations = map (declaration see) program.decls }

@@ -3,4 +3,3 @@ pub mod Types
 pub mod Patterns
 pub mod Trees
 pub mod Declarations
-pub mod Levels

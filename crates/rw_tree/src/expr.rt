@@ -4,7 +4,7 @@ use crate::{Alt, Local, Pat, Stmt};
 use rw_base::Name;
 use sqlite_items::{Boxed, Items};
 
-/// An expression. Each node has an annotation: its span, or its span and its type.
+/// An expression. Each node has an annotation: its span, and what a stage finds of it.
 #[cycle(tree)]
 #[derive(Drop)]
 pub enum Expr<A> {

@@ -1,25 +1,22 @@
 //! The trees that the front of the compiler shares: the types of expressions, patterns, clauses, declarations and
-//! programs over any annotation, with their plain forms, copies and equality.
+//! programs over any annotation of their nodes, with their plain forms. It has no code.
 //!
-//! It leaves reading, scope and types to the crates above: it says what a tree is, and not which tree is good.
-//! Every stage from the parser to the flat program takes or gives these trees.
+//! It leaves reading, scope and types to the crates above, and copies to `rw_tree_copies`: it says what a tree is, and
+//! not which tree is good. Every stage of the front, from the parser to the verdict on a source, takes or gives these
+//! trees, and the meaning of a source is said of them.
 //! Begin with `expr.rt` and `clause.rt`, then `specs/Trees.antt`, which says their plain forms.
 #![tactic(auto)]
 
-mod annotation;
 mod clause;
-mod copy;
 mod decl;
-mod equal;
 mod expr;
 mod pattern;
 mod program;
 mod types;
 
-pub use annotation::Annotation;
 pub use clause::{Alt, Guard, Local, Rhs, Stmt};
 pub use decl::{Constructor, DataDecl, Decl, Side};
 pub use expr::Expr;
 pub use pattern::Pat;
-pub use program::{Program, Typed};
-pub use types::{Kind, TyNode, Written};
+pub use program::Program;
+pub use types::{Kind, Written};

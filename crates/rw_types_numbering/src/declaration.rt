@@ -7,23 +7,14 @@ ghost use Rattle.rw_types_numbering.specs.Numbering.{numbered_declaration};
 
 use crate::clause::number_clauses;
 use crate::label::plain_label;
-use rw_base::{Name, OutOfMemory};
+use rw_base::OutOfMemory;
 use rw_scope_rules::Bound;
 use rw_tree::Decl;
+use rw_tree_copies::{copied_data, copied_names, copied_type};
 use rw_types_equations::{Numbered, World};
 use rw_types_rules::VariableKind;
 use sqlite_items::Items;
 use std::alloc::Global;
-
-fn copied_names(alloc: Global, names: &[Name]) -> Result<Items<Name>, OutOfMemory>
-    ensures { IfOk result (λ copies. copies ≡ names.now) }
-{
-    let mut copies = Items::new(alloc);
-    for name in names {
-        copies.push(name.copied(alloc)?)?;
-    }
-    Ok(copies)
-}
 
 // A declaration, whose numbers come after those of these kinds.
 fn number_decl(
@@ -42,7 +33,7 @@ fn number_decl(
         }
         Decl::Data(at, made) => {
             let at = plain_label(*at, kinds)?;
-            Ok(Decl::Data(at, made.copied(alloc)?))
+            Ok(Decl::Data(at, copied_data(alloc, made)?))
         }
         Decl::Fixity(at, side, strength, names) => {
             let at = plain_label(*at, kinds)?;
@@ -52,7 +43,7 @@ fn number_decl(
         Decl::Sig(at, names, written) => {
             let at = plain_label(*at, kinds)?;
             let names = copied_names(alloc, names.as_slice())?;
-            Ok(Decl::Sig(at, names, written.copied(alloc)?))
+            Ok(Decl::Sig(at, names, copied_type(alloc, written)?))
         }
         Decl::Fun(at, name, clauses) => {
             let at = plain_label(*at, kinds)?;

@@ -10,6 +10,7 @@ use crate::label::plain_label;
 use rw_base::OutOfMemory;
 use rw_scope_rules::Bound;
 use rw_tree::Local;
+use rw_tree_copies::copied_type;
 use rw_types_equations::{Numbered, World};
 use rw_types_rules::VariableKind;
 use sqlite_items::Items;
@@ -30,7 +31,7 @@ fn number_local(
         Local::Sig(at, name, written) => {
             let at = plain_label(*at, kinds)?;
             let name = name.copied(alloc)?;
-            Ok(Local::Sig(at, name, written.copied(alloc)?))
+            Ok(Local::Sig(at, name, copied_type(alloc, written)?))
         }
         Local::Fun(at, name, clauses) => {
             let at = plain_label(*at, kinds)?;

@@ -35,7 +35,6 @@ fn small(alloc: Global) -> Result<Program<Span>, OutOfMemory> {
     let function = Decl::Fun(AT, Name::from_slice(alloc, b"f")?, clauses);
     Ok(Program {
         decls: one(alloc, function)?,
-        types: Items::new(alloc),
     })
 }
 

@@ -28,10 +28,7 @@ fn function(alloc: Global, line: u32, name: &[u8]) -> Result<Decl<Span>, OutOfMe
 }
 
 fn program(alloc: Global, decls: Items<Decl<Span>>) -> Program<Span> {
-    Program {
-        decls,
-        types: Items::new(alloc),
-    }
+    Program { decls }
 }
 
 /// What is wrong with a program, if anything is.

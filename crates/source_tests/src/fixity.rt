@@ -82,10 +82,7 @@ fn program(alloc: Global, body: Expr<Span>) -> Result<Program<Span>, TestFail> {
     decls.push(right).map_err(|_| "memory")?;
     let function = function(alloc, body)?;
     decls.push(function).map_err(|_| "memory")?;
-    Ok(Program {
-        decls,
-        types: Items::new(alloc),
-    })
+    Ok(Program { decls })
 }
 
 // Whether the left and the right operand of an operator are operators with operands.

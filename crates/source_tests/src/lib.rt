@@ -1,5 +1,5 @@
 //! The tests of the stages from the bytes of a source to its trees: tokens, layout, types and patterns, clauses, chains of
-//! operators, the trees themselves, and the declarations of the prelude.
+//! operators, copies of their parts, and the declarations of the prelude.
 //!
 //! It leaves whole programs to `front_gallery`. Nothing uses it: it stands apart so that a stage is proved once, and not once more
 //! beside its tests. Begin with `lex.rt`, then `layout.rt`.
@@ -7,6 +7,8 @@
 
 #[cfg(test)]
 mod clauses;
+#[cfg(test)]
+mod copies;
 #[cfg(test)]
 mod fixity;
 #[cfg(test)]
@@ -17,5 +19,3 @@ mod lex;
 mod patterns;
 #[cfg(test)]
 mod prelude;
-#[cfg(test)]
-mod tree;

@@ -61,7 +61,6 @@ choose e rows = case_of here e (alternative_parts rows)
 abbrev pub device : List (Declaration Span) → List (Declaration Bound)
 device functions = (bound_program (record {
   declarations = data_declaration here (codes "Bool") [] (record { constructor_name = codes "False"; field_types = [] } ∷ record { constructor_name = codes "True"; field_types = [] } ∷ []) ∷ functions;
-  named_types = [];
 })).declarations
 
 -- the two values of Bool, and lists of them

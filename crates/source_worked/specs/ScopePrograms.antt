@@ -25,7 +25,7 @@ abbrev pub broken_at : Rule → ℕ → ℕ → Refusal
 broken_at rule line column = record { rule = rule; place = record { line = line; column = column } }
 
 abbrev pub program_of : List (Declaration Span) → PlainProgram Span
-program_of decls = record { declarations = decls; named_types = [] }
+program_of decls = record { declarations = decls }
 
 -- types
 abbrev pub named_type : String → WrittenType
@@ -124,5 +124,4 @@ numbered_bound = record {
       (plain_side (variable (bound_at 4 7 (Operates Get)) (codes "get"))) no_bindings ∷ []))
       ∷ [])) ∷ [])
       ∷ [];
-  named_types = [];
 }

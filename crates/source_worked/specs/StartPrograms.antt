@@ -68,7 +68,7 @@ abbrev pub broken_in : PlainProgram Bound → Option Refusal
 broken_in program = broken_first E15 (earliest (improper_start program)) (broken_first E16 (earliest (misplaced program)) None)
 
 abbrev pub broken : List (Declaration Span) → Option Refusal
-broken decls = broken_in (bound_program (record { declarations = decls; named_types = [] }))
+broken decls = broken_in (bound_program (record { declarations = decls }))
 
 -- `start` of this type, with these clauses, before other declarations
 abbrev pub started : WrittenType → List (Alternative Span) → List (Declaration Span) → Option Refusal

@@ -18,4 +18,4 @@ returns g c = λ reads.
     let tokens = c.args.tokens.now in
     let ts = c.as_slice.result.now in
     let same : ts ≡ lexemes tokens = c.as_slice.ensures ∙ c.in_ok-lexemes.ensures in
-    whole_parse tokens ts same (c.in_ok-joined.joined, c.in_ok-joined.deep) c.in_ok-closed.field-0 c.new.result c.grouped.result (c.in_ok-joined.ensures reads (length tokens) (within tokens ts same)) c.in_ok-closed.ensures c.new.ensures c.grouped.ensures
+    whole_parse tokens ts same (c.in_ok-joined.joined, c.in_ok-joined.deep) c.in_ok-closed.field-0 c.grouped.result (c.in_ok-joined.ensures reads (length tokens) (within tokens ts same)) c.in_ok-closed.ensures c.grouped.ensures

@@ -18,28 +18,6 @@ use Rattle.rw_parser_fixity.proofs.items.item.Goals as goal
 same : (strength : List ℕ → Strength) (x : Span) (n : ℕ) (a b : Decl Span) (result : Result (Decl Span) Fail) → a ≡ b → (Whole strength x n b result → Item strength b result) → Whole strength x n a result → Item strength a result
 same strength x n a b result e f h = subst (λ z. Item strength z result) (sym e) (f (subst (λ z. Whole strength x n z result) e h))
 
-pub returns-in-Import : goal.returns-in-Import
-returns-in-Import c =
-    let s = strength_at c.args.fixities.now in
-    same s c.in-Import.at 0 c.args.decl.now (d.Import c.in-Import.at c.in-Import.field-1) c.whole.result c.in-Import.is (import_is s c.in-Import.at c.in-Import.field-1 c.whole.result) c.whole.ensures
-
-pub returns-in-Data : goal.returns-in-Data
-returns-in-Data c =
-    let s = strength_at c.args.fixities.now in
-    same s c.in-Data.at c.data_levels.result c.args.decl.now (d.Data c.in-Data.at c.in-Data.made) c.whole-in-Data.result c.in-Data.is (data_is s c.in-Data.at c.in-Data.made c.data_levels.result c.whole-in-Data.result c.data_levels.ensures) c.whole-in-Data.ensures
-
-pub returns-in-Fixity : goal.returns-in-Fixity
-returns-in-Fixity c =
-    let s = strength_at c.args.fixities.now in
-    same s c.in-Fixity.at 0 c.args.decl.now (d.Fixity c.in-Fixity.at c.in-Fixity.field-1 c.in-Fixity.field-2 c.in-Fixity.field-3) c.whole-in-Fixity.result c.in-Fixity.is
-    (fixity_is s c.in-Fixity.at c.in-Fixity.field-1 c.in-Fixity.field-2 c.in-Fixity.field-3 c.whole-in-Fixity.result) c.whole-in-Fixity.ensures
-
-pub returns-in-Sig : goal.returns-in-Sig
-returns-in-Sig c =
-    let s = strength_at c.args.fixities.now in
-    same s c.in-Sig.at c.type_levels.result c.args.decl.now (d.Sig c.in-Sig.at c.in-Sig.field-1 c.in-Sig.written) c.whole-in-Sig.result c.in-Sig.is
-    (signature_is s c.in-Sig.at c.in-Sig.field-1 c.in-Sig.written c.type_levels.result c.whole-in-Sig.result c.type_levels.ensures) c.whole-in-Sig.ensures
-
 pub returns-in_err-rows-in-Fun : goal.returns-in_err-rows-in-Fun
 returns-in_err-rows-in-Fun c =
     let p = err_from_is_err_and c.from_residual.result c.from_residual.ensures.1 in

@@ -11,8 +11,8 @@ use Rattle.rw_parser_fixity.proofs.program.resolve_fixity.Goals as goal
 pub returns : goal.returns
 returns c =
     let program = c.args.program.now in
-    let made = program_made program (strength_at c.in_ok-fixities.fixities) c.as_slice-2.result.now c.in_ok-items.field-0 c.in_ok-copied_types.field-0 (c.in_ok-fixities.ensures ∙ ap strength_of_name c.as_slice.ensures) c.as_slice-2.ensures
-    (c.in_ok-copied_types.ensures ∙ c.as_slice-3.ensures) c.in_ok-items.ensures in
+    let made = program_made program (strength_at c.in_ok-fixities.fixities) c.as_slice-2.result.now c.in_ok-items.field-0 (c.in_ok-fixities.ensures ∙ ap strength_of_name c.as_slice.ensures) c.as_slice-2.ensures
+    c.in_ok-items.ensures in
     record {
       resolved = made;
       refused = λ refusal e. absurd (cc);
