@@ -1,16 +1,18 @@
 //! The program `front_gallery`: it says whether the prelude's text spells the prelude's declarations, and then reads sources
 //! from standard input, each up to an empty line, and writes what is found of each, or the rule that it breaks and where,
-//! and then its first line. A line `% declarations` has it write how many declarations a source has, from there on; a line
-//! `% types` the types of the numbers of its last declaration.
+//! and then its first line. What is asked from there on is said by a line: `% tokens`, `% layout`, `% trees`, `% declarations`,
+//! `% scope` or `% types`, as `source.rt` has them.
 //!
 //! Each source goes through the stages of the front, as a source of the language does. What is written is compared with
 //! answers that were worked out by hand. Begin with `source.rt`; `prelude.rt` is apart.
 #![tactic(auto)]
 
+mod nodes;
 mod prelude;
-mod same;
 mod shown;
 mod source;
+mod tokens;
+mod tree;
 
 use rw_base::Fail;
 use source::Question;

@@ -1,42 +1,41 @@
 // Whether the prelude's text spells the declarations that stand before every source.
 
-use crate::same::same_program;
 use crate::source::program_of;
+use crate::tree::tree_of;
 use rw_base::Fail;
 use rw_front::prelude;
 use rw_prelude::prelude_decls;
-use rw_tree::Program;
 use std::alloc::Global;
 use std::io::{self, ErrorKind};
 
-// How many declarations the text has, how many the prelude has, and whether they are the same but for where they stand.
+// How many declarations the text has, how many the prelude has, and whether they read alike.
 #[derive(Clone, Copy)]
 struct Found {
     spelled: usize,
     wanted: usize,
-    same: bool,
+    alike: bool,
 }
 
 fn compare(alloc: Global, source: &[u8]) -> Result<Found, Fail> {
     let spelled = program_of(alloc, source)?;
-    let wanted = Program {
-        decls: prelude_decls(alloc)?,
-    };
+    let wanted = prelude_decls(alloc)?;
+    let text = tree_of(alloc, spelled.decls.as_slice())?;
+    let alike = text.as_str() == tree_of(alloc, wanted.as_slice())?.as_str();
     Ok(Found {
         spelled: spelled.decls.len(),
-        wanted: wanted.decls.len(),
-        same: same_program(alloc, &spelled, &wanted)?,
+        wanted: wanted.len(),
+        alike,
     })
 }
 
-/// Writes how many declarations the text has, how many the prelude has, and whether they are the same.
+/// Writes how many declarations the text has, how many the prelude has, and whether they are the same but for their places.
 pub fn show(rt: &HostRuntime) -> io::Result<()> {
     match compare(rt.alloc(), prelude()) {
         Ok(found) => println!(rt;
             "{} declarations of the text, {} of the prelude: {}",
             found.spelled,
             found.wanted,
-            if found.same {
+            if found.alike {
                 "the same"
             } else {
                 "not the same"

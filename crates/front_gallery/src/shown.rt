@@ -1,18 +1,11 @@
 // Types as text: each head in front of its parts, in parentheses.
 
-use rw_base::{Name, Span};
+use crate::nodes::push_name;
+use rw_base::Span;
 use rw_tree::Decl;
 use rw_types::TypedDecl;
 use rw_types_solving::{Head, Term};
 use std::alloc::{AllocError, Global};
-
-// The bytes of a name.
-fn push_name(out: &mut String, name: &Name) -> Result<(), AllocError> {
-    for byte in name.as_slice() {
-        out.push(char::from(*byte))?;
-    }
-    Ok(())
-}
 
 // The name of the data type with this number.
 fn push_data(out: &mut String, number: u32, decls: &[Decl<Span>]) -> Result<(), AllocError> {

@@ -13,7 +13,7 @@ ghost use Rattle.rw_cover.specs.Correct.{AllHaveTypes, IsCovered, IsFirst, Leave
 ghost use Rattle.rw_cover.specs.Walk.{own_groups};
 
 use crate::group::{node_place, own_place};
-use crate::known::known_of;
+use crate::named::known_of;
 use crate::laws::places_law;
 use crate::place::sooner;
 use crate::{Known, constructor_counts};
