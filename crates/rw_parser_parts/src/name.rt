@@ -1,6 +1,6 @@
 // Names and operators where they are used and where they are bound (Haskell 2010 Report, section 3.2).
-ghost use Rattle.rw_parser_grammar.specs.ReadNames as names;
-ghost use Rattle.rw_parser_grammar.specs.ReadClauses as clauses;
+ghost use Rattle.rw_parser_reading.specs.ReadNames as names;
+ghost use Rattle.rw_parser_reading.specs.ReadClauses as clauses;
 ghost use Rattle.rw_parser_patterns.specs.Given.{Gives};
 
 use rw_base::{Name, Span};
@@ -46,7 +46,7 @@ pub fn op(alloc: Global, tokens: &[Lexeme]) -> Result<(Expr<Span>, &[Lexeme]), U
 }
 
 // var `` ` ``
-#[tactic(auto, unfolding(rw_parser_grammar::specs::ReadClauses::variable_quoted_at))]
+#[tactic(auto, unfolding(rw_parser_reading::specs::ReadClauses::variable_quoted_at))]
 fn variable_quoted(alloc: Global, tokens: &[Lexeme]) -> Result<(Name, &[Lexeme]), Unread>
     ensures { Gives (λ x. (x.0, x.1.now)) result (clauses.variable_quoted_at tokens.now) }
 {

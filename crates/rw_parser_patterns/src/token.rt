@@ -1,6 +1,6 @@
 // Tokens one by one, from the front of a list, and spans.
 ghost use Rattle.std.specs.Prelude.{◌≡◌, ◌≤◌, length, drop, nat_le, IfOk};
-ghost use Rattle.rw_parser_grammar.specs.Read as reads;
+ghost use Rattle.rw_parser_reading.specs.Read as reads;
 ghost use Rattle.rw_parser_grammar.specs.Lexemes as lexemes;
 ghost use Rattle.rw_parser_patterns.specs.Given.{Gives};
 
@@ -8,7 +8,7 @@ use crate::Unread;
 use rw_base::{Place, Span};
 use rw_parser_grammar::{Lexeme, Mark, Spot};
 
-#[tactic(auto, unfolding(rw_parser_grammar::specs::Read::same_mark))]
+#[tactic(auto, unfolding(rw_parser_reading::specs::Read::same_mark))]
 pub fn same_mark(a: Mark, b: Mark) -> bool
     ensures { result ≡ reads.same_mark a b }
 {
@@ -37,7 +37,7 @@ pub fn rest_of(tokens: &[Lexeme]) -> &[Lexeme]
 }
 
 // The tokens after a mark.
-#[tactic(auto, unfolding(rw_parser_grammar::specs::Read::after))]
+#[tactic(auto, unfolding(rw_parser_reading::specs::Read::after))]
 pub fn after(tokens: &[Lexeme], wanted: Mark) -> Result<&[Lexeme], Unread>
     ensures read { Gives (λ r. r.now) result (reads.after wanted tokens.now) }
     ensures shorter { IfOk result (λ r. length r.now ≤ length tokens.now) }

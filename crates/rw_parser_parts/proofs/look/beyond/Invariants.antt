@@ -1,5 +1,5 @@
 use Rattle.std.proofs.Common.{◌≡◌, length}
-use Rattle.rw_parser_grammar.specs.ReadNames.{beyond}
+use Rattle.rw_parser_reading.specs.ReadNames.{beyond}
 use Rattle.rw_parser_parts.proofs.look.beyond.Given as goal
 
 abbrev pub invariant-loop-rest : goal.invariant-loop-rest
