@@ -18,6 +18,11 @@ mod signature;
 pub use binding::read_binding;
 pub use block::read_block;
 pub use frame::{Chain, Frame, Head, Step, all_closed, chained, cut_off};
-pub use joined::{Group, join};
+pub use joined::{Group, begun, join, longer};
 pub use left::left_side;
+pub use look::{
+    begins_aexp, begins_bind, begins_binding, begins_infix, begins_last, begins_op,
+    begins_operator, begins_signature, span_of,
+};
+pub use name::op;
 pub use signature::read_signature;

@@ -26,7 +26,9 @@ fn quoted(alloc: Global, tokens: &[Lexeme]) -> Result<(Expr<Span>, &[Lexeme]), U
     }
 }
 
-// op ::= Operator | `` ` `` (var | Con) `` ` ``
+/// op ::= Operator | `` ` `` (var | Con) `` ` ``
+///
+/// The operator where it is used, and the tokens that follow it.
 pub fn op(alloc: Global, tokens: &[Lexeme]) -> Result<(Expr<Span>, &[Lexeme]), Unread>
     ensures { Gives (λ x. (x.0, x.1.now)) result (names.op_at tokens.now) }
 {

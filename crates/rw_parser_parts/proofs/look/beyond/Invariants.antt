@@ -1,3 +1,4 @@
+-- What the loop over tokens that patterns are made of keeps.
 use Rattle.std.proofs.Common.{◌≡◌, length}
 use Rattle.rw_parser_reading.specs.ReadNames.{beyond}
 use Rattle.rw_parser_parts.proofs.look.beyond.Given as goal
