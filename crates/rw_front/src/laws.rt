@@ -6,7 +6,7 @@ ghost use Rattle.rw_front.specs.Verdict.{Verdict};
 use rw_cover_laws::exact_law;
 use rw_lex::{never_both, one_refusal, one_token_list};
 use rw_parser_chains::one_program_resolved;
-use rw_parser_grammar::{one_place, one_program};
+use rw_parser_laws::{one_place, one_program};
 use rw_scope_rules::verdict_law;
 
 /// There is one verdict on each source: it is one program, or breaks one rule first, at one place.

@@ -7,8 +7,8 @@ use Rattle.rw_base.specs.declared.rule.Rule.TheVariants as rule
 use Rattle.rw_parser_grammar.specs.declared.lexeme.Mark.TheVariants as m
 use Rattle.rw_parser_grammar.specs.declared.lexeme.Lexeme.{Lexeme}
 use Rattle.rw_parser_grammar.specs.Grammar.{first_place}
-use Rattle.rw_parser_grammar.specs.Read.{◌>>=◌, after}
-use Rattle.rw_parser_grammar.specs.ReadProgram.{header_at, runs_at, frame_at, items_at}
+use Rattle.rw_parser_reading.specs.Read.{◌>>=◌, after}
+use Rattle.rw_parser_reading.specs.ReadProgram.{header_at, runs_at, frame_at, items_at}
 use Rattle.rw_parser.specs.Shallow.{Kept, nothing, kept_behind}
 use Rattle.rw_parser.specs.Frame.{frame_tokens, kept_framed}
 use Rattle.rw_parser.specs.Reading.{Answers}

@@ -7,13 +7,13 @@ use Rattle.rw_tree.specs.declared.decl.Decl.{Decl}
 use Rattle.rw_parser_grammar.specs.declared.item.Item.TheVariants as i
 use Rattle.rw_parser_grammar.specs.declared.lexeme.Mark.TheVariants as m
 use Rattle.rw_parser_grammar.specs.declared.lexeme.Lexeme.{Lexeme}
-use Rattle.rw_parser_grammar.specs.Frames.{frames_of_declaration, frames_of_item, kept, cut}
+use Rattle.rw_parser_reading.specs.Frames.{frames_of_declaration, frames_of_item, kept, cut}
 use Rattle.rw_parser_grammar.specs.Levels.{max_levels}
-use Rattle.rw_parser_grammar.specs.Read.{◌>>=◌, Read, sees, after, separated_at}
-use Rattle.rw_parser_grammar.specs.ReadTypes.{type_at}
-use Rattle.rw_parser_grammar.specs.ReadDeclarations.{module_name_at, behind_word, behind_as, exports_at, import_at, side_at, strength_at, operator_name_at, fixity_at, data_at, newtype_at, data_or_newtype_at, signature_at, whole_item, begins_signed, begins_fixity, named_item_at, item_over_at, item_at}
-use Rattle.rw_parser_grammar.specs.ReadLevels.{clause_over, expression_at, locals_at}
-use Rattle.rw_parser_grammar.proofs.ReadExact.{bind_some, moved}
+use Rattle.rw_parser_reading.specs.Read.{◌>>=◌, Read, sees, after, separated_at}
+use Rattle.rw_parser_reading.specs.ReadTypes.{type_at}
+use Rattle.rw_parser_reading.specs.ReadDeclarations.{module_name_at, behind_word, behind_as, exports_at, import_at, side_at, strength_at, operator_name_at, fixity_at, data_at, newtype_at, data_or_newtype_at, signature_at, whole_item, begins_signed, begins_fixity, named_item_at, item_over_at, item_at}
+use Rattle.rw_parser_reading.specs.ReadLevels.{clause_over, expression_at, locals_at}
+use Rattle.rw_parser_reading.proofs.ReadExact.{bind_some, moved}
 use Rattle.rw_parser_items.specs.Kept.{data_kept, newtype_kept, signature_kept}
 use Rattle.rw_parser_items.proofs.Cut.{data_cut, newtype_cut, signature_cut}
 use Rattle.rw_parser.specs.Clauses.{frames_of_clause}

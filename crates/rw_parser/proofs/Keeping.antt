@@ -9,11 +9,11 @@ use Rattle.rw_tree.specs.declared.decl.Decl.TheVariants.{Import, Data, Fixity, S
 use Rattle.rw_parser_grammar.specs.declared.item.Item.{Item}
 use Rattle.rw_parser_grammar.specs.declared.item.Item.TheVariants as i
 use Rattle.rw_parser_grammar.specs.declared.lexeme.Lexeme.{Lexeme}
-use Rattle.rw_parser_grammar.specs.Frames.{frames_of_item, kept}
+use Rattle.rw_parser_reading.specs.Frames.{frames_of_item, kept}
 use Rattle.rw_parser_grammar.specs.Levels.{max_levels}
 use Rattle.rw_parser_grammar.specs.Grammar.{item_groups, declarations_of}
-use Rattle.rw_parser_grammar.specs.ReadProgram.{items_at, item_before}
-use Rattle.rw_parser_grammar.specs.Shallow.{is_fixity, fixities, is_shallow, shallow, item_place, first_deep}
+use Rattle.rw_parser_reading.specs.ReadProgram.{items_at, item_before}
+use Rattle.rw_parser_reading.specs.Shallow.{is_fixity, fixities, is_shallow, shallow, item_place, first_deep}
 use Rattle.rw_parser_parts.specs.declared.joined.Group.{Group}
 use Rattle.rw_parser.specs.Joined.{closed, with_item}
 use Rattle.rw_parser.specs.Shallow.{Kept, with_kept, nothing, keeping, kept_behind}

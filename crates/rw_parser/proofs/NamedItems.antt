@@ -4,10 +4,10 @@ use Rattle.rw_base.specs.declared.place.Span.{Span}
 use Rattle.rw_tree.specs.declared.clause.Alt.{Alt}
 use Rattle.rw_tree.specs.declared.decl.Decl.{Decl}
 use Rattle.rw_parser_grammar.specs.declared.lexeme.Lexeme.{Lexeme}
-use Rattle.rw_parser_grammar.specs.Frames.{cut}
+use Rattle.rw_parser_reading.specs.Frames.{cut}
 use Rattle.rw_parser_grammar.specs.Levels.{max_levels}
-use Rattle.rw_parser_grammar.specs.ReadDeclarations.{begins_signed}
-use Rattle.rw_parser_grammar.specs.ReadLevels.{clause_over, expression_at, locals_at}
+use Rattle.rw_parser_reading.specs.ReadDeclarations.{begins_signed}
+use Rattle.rw_parser_reading.specs.ReadLevels.{clause_over, expression_at, locals_at}
 use Rattle.rw_parser_items.specs.Kept.{signature_kept}
 use Rattle.rw_parser.specs.Clauses.{frames_of_clause}
 use Rattle.rw_parser.specs.Kept.{whole, clause_of, named_item_kept}

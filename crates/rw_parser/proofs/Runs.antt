@@ -9,9 +9,9 @@ use Rattle.rw_parser_grammar.specs.declared.lexeme.Spot.{Spot}
 use Rattle.rw_parser_grammar.specs.declared.lexeme.Lexeme.{Lexeme}
 use Rattle.rw_parser_grammar.specs.declared.lexeme.Lexeme.TheVariants as t
 use Rattle.rw_parser_grammar.specs.Grammar.{whole_run}
-use Rattle.rw_parser_grammar.specs.Read.{◌>>=◌, same_mark, sees}
-use Rattle.rw_parser_grammar.proofs.ReadExact.{bind_some, some_is, chosen, is_same}
-use Rattle.rw_parser_grammar.specs.ReadProgram.{Run, run_before, run_at, is_none, runs_at}
+use Rattle.rw_parser_reading.specs.Read.{◌>>=◌, same_mark, sees}
+use Rattle.rw_parser_reading.proofs.ReadExact.{bind_some, some_is, chosen, is_same}
+use Rattle.rw_parser_reading.specs.ReadProgram.{Run, run_before, run_at, is_none, runs_at}
 use Rattle.rw_parser.specs.Runs.{depth_after, Ends}
 
 -- tokens before a run

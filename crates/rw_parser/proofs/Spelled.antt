@@ -3,16 +3,16 @@ use Rattle.std.proofs.Common.{◌≡◌, ◌∙◌, ℕ, ◌≤◌, Bool, true, 
 use Rattle.rw_base.specs.declared.place.Place.{Place}
 use Rattle.rw_parser_grammar.specs.declared.item.Item.{Item}
 use Rattle.rw_parser_grammar.specs.declared.lexeme.Lexeme.{Lexeme}
-use Rattle.rw_parser_grammar.specs.Frames.{frames_of_item, kept, cut}
+use Rattle.rw_parser_reading.specs.Frames.{frames_of_item, kept, cut}
 use Rattle.rw_parser_grammar.specs.Levels.{max_levels}
 use Rattle.rw_parser_grammar.specs.Grammar.{whole_run}
 use Rattle.rw_parser_grammar.specs.Lexemes.{next_spot}
-use Rattle.rw_parser_grammar.specs.Read.{◌>>=◌, Read}
-use Rattle.rw_parser_grammar.specs.ReadDeclarations.{item_at}
-use Rattle.rw_parser_grammar.specs.ReadProgram.{is_last, item_of, item_before, items_at}
-use Rattle.rw_parser_grammar.specs.Shallow.{item_place}
-use Rattle.rw_parser_grammar.proofs.ReadProgram.{item_sound}
-use Rattle.rw_parser_grammar.proofs.Shallow.{place_of_item}
+use Rattle.rw_parser_reading.specs.Read.{◌>>=◌, Read}
+use Rattle.rw_parser_reading.specs.ReadDeclarations.{item_at}
+use Rattle.rw_parser_reading.specs.ReadProgram.{is_last, item_of, item_before, items_at}
+use Rattle.rw_parser_reading.specs.Shallow.{item_place}
+use Rattle.rw_parser_laws.proofs.ReadProgram.{item_sound}
+use Rattle.rw_parser_laws.proofs.Shallow.{place_of_item}
 use Rattle.rw_parser.specs.Kept.{item_kept}
 use Rattle.rw_parser.specs.Shallow.{Kept, with_kept, kept_behind}
 use Rattle.rw_parser.specs.Reading.{run_kept}

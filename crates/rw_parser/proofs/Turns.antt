@@ -10,8 +10,8 @@ use Rattle.rw_parser_grammar.specs.declared.lexeme.Mark.TheVariants as m
 use Rattle.rw_parser_grammar.specs.declared.lexeme.Lexeme.{Lexeme}
 use Rattle.rw_parser_grammar.specs.Grammar.{whole_run}
 use Rattle.rw_parser_grammar.specs.Lexemes.{next_spot}
-use Rattle.rw_parser_grammar.specs.Read.{sees}
-use Rattle.rw_parser_grammar.specs.ReadProgram.{run_at, runs_at, items_at}
+use Rattle.rw_parser_reading.specs.Read.{sees}
+use Rattle.rw_parser_reading.specs.ReadProgram.{run_at, runs_at, items_at}
 use Rattle.rw_parser.specs.Shallow.{Kept, with_kept, kept_behind}
 use Rattle.rw_parser.proofs.Runs.{whole_taken, one_run, last_run, no_run, runs_left}
 use Rattle.rw_parser.specs.Reading.{run_kept, Answers, AnswersRun}

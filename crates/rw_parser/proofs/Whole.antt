@@ -14,12 +14,12 @@ use Rattle.rw_parser_grammar.specs.declared.lexeme.Lexeme.{Lexeme}
 use Rattle.rw_parser_grammar.specs.Chains.{strength_of_name}
 use Rattle.rw_parser_grammar.specs.Lexemes.{lexemes}
 use Rattle.rw_parser_grammar.specs.Grammar.{Spells, IsNotOfTheGrammar, first_place, declarations_of, item_groups}
-use Rattle.rw_parser_grammar.specs.ReadProgram.{frame_at, items_at, program_at, framed}
+use Rattle.rw_parser_reading.specs.ReadProgram.{frame_at, items_at, program_at, framed}
 use Rattle.rw_parser_grammar.specs.Resolution.{IsProgramResolved, FirstDeclarationBroken}
-use Rattle.rw_parser_grammar.specs.Shallow.{of_items, shallow, first_deep}
-use Rattle.rw_parser_grammar.proofs.Frames.{one_program}
-use Rattle.rw_parser_grammar.proofs.ReadProgram.{items_sound, program_sound, place_sound, unframed, no_two_answers, one_place_of, count_from}
-use Rattle.rw_parser_grammar.proofs.Shallow.{NoFunctions, items_no_functions, none_deep, earlier_broken, deep_broken}
+use Rattle.rw_parser_reading.specs.Shallow.{of_items, shallow, first_deep}
+use Rattle.rw_parser_laws.proofs.Frames.{one_program}
+use Rattle.rw_parser_laws.proofs.ReadProgram.{items_sound, program_sound, place_sound, unframed, no_two_answers, one_place_of, count_from}
+use Rattle.rw_parser_laws.proofs.Shallow.{NoFunctions, items_no_functions, none_deep, earlier_broken, deep_broken}
 use Rattle.rw_parser_chains.proofs.Programs as chain
 use Rattle.rw_parser_fixity.specs.Found.{Answers}
 use Rattle.rw_parser.specs.Joined.{closed}

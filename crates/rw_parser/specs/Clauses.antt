@@ -4,9 +4,9 @@ use denote.Ref.{Bor}
 use Rattle.rw_base.specs.declared.place.Span.{Span}
 use Rattle.rw_tree.specs.declared.clause.Alt.{Alt}
 use Rattle.rw_parser_grammar.specs.declared.lexeme.Lexeme.{Lexeme}
-use Rattle.rw_parser_grammar.specs.Frames.{frames_of_row, cut}
+use Rattle.rw_parser_reading.specs.Frames.{frames_of_row, cut}
 use Rattle.rw_parser_grammar.specs.Levels.{max_levels}
-use Rattle.rw_parser_grammar.specs.ReadLevels.{clause_over, expression_at, locals_at}
+use Rattle.rw_parser_reading.specs.ReadLevels.{clause_over, expression_at, locals_at}
 use Rattle.rw_base.specs.Answers.{Unread}
 use Rattle.rw_base.specs.Answers.{Gives}
 

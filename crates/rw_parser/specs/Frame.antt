@@ -11,8 +11,8 @@ use Rattle.rw_parser_grammar.specs.declared.lexeme.Mark.TheVariants as m
 use Rattle.rw_parser_grammar.specs.declared.lexeme.Lexeme.{Lexeme}
 use Rattle.rw_parser_grammar.specs.Chains.{strength_of_name}
 use Rattle.rw_parser_grammar.specs.Grammar.{Spells, IsNotOfTheGrammar, first_place}
-use Rattle.rw_parser_grammar.specs.Read.{◌>>=◌, after}
-use Rattle.rw_parser_grammar.specs.ReadProgram.{header_at, items_at}
+use Rattle.rw_parser_reading.specs.Read.{◌>>=◌, after}
+use Rattle.rw_parser_reading.specs.ReadProgram.{header_at, items_at}
 use Rattle.rw_parser_grammar.specs.Resolution.{IsProgramResolved, FirstDeclarationBroken}
 use Rattle.rw_parser.specs.Shallow.{Kept, nothing, kept_behind}
 

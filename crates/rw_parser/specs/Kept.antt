@@ -7,11 +7,11 @@ use Rattle.rw_parser_grammar.specs.declared.item.Item.{Item}
 use Rattle.rw_parser_grammar.specs.declared.item.Item.TheVariants as i
 use Rattle.rw_parser_grammar.specs.declared.lexeme.Mark.TheVariants as m
 use Rattle.rw_parser_grammar.specs.declared.lexeme.Lexeme.{Lexeme}
-use Rattle.rw_parser_grammar.specs.Frames.{cut}
+use Rattle.rw_parser_reading.specs.Frames.{cut}
 use Rattle.rw_parser_grammar.specs.Levels.{max_levels}
-use Rattle.rw_parser_grammar.specs.Read.{◌>>=◌, Read, sees}
-use Rattle.rw_parser_grammar.specs.ReadDeclarations.{import_at, fixity_at, begins_signed, begins_fixity}
-use Rattle.rw_parser_grammar.specs.ReadLevels.{clause_over, expression_at, locals_at}
+use Rattle.rw_parser_reading.specs.Read.{◌>>=◌, Read, sees}
+use Rattle.rw_parser_reading.specs.ReadDeclarations.{import_at, fixity_at, begins_signed, begins_fixity}
+use Rattle.rw_parser_reading.specs.ReadLevels.{clause_over, expression_at, locals_at}
 use Rattle.rw_parser_items.specs.Kept.{data_kept, newtype_kept, signature_kept}
 use Rattle.rw_parser.specs.Clauses.{frames_of_clause}
 

@@ -6,9 +6,9 @@ use Rattle.rw_base.specs.declared.fail.Failure.TheVariants as fail
 use Rattle.rw_base.specs.declared.rule.Rule.TheVariants as rule
 use Rattle.rw_parser_grammar.specs.declared.item.Item.{Item}
 use Rattle.rw_parser_grammar.specs.declared.lexeme.Lexeme.{Lexeme}
-use Rattle.rw_parser_grammar.specs.Read.{◌>>=◌}
+use Rattle.rw_parser_reading.specs.Read.{◌>>=◌}
 use Rattle.rw_parser_grammar.specs.Grammar.{whole_run}
-use Rattle.rw_parser_grammar.specs.ReadProgram.{is_last, items_at}
+use Rattle.rw_parser_reading.specs.ReadProgram.{is_last, items_at}
 use Rattle.rw_parser.specs.Kept.{item_kept}
 use Rattle.rw_parser.specs.Shallow.{Kept, kept_behind}
 

@@ -3,8 +3,8 @@ use Rattle.std.specs.Prelude.{◌≡◌, ◌<◌, ◌+◌, ◌-◌, ◌&&◌, �
 use Rattle.rw_parser_grammar.specs.declared.lexeme.Mark.TheVariants as m
 use Rattle.rw_parser_grammar.specs.declared.lexeme.Lexeme.{Lexeme}
 use Rattle.rw_parser_grammar.specs.declared.lexeme.Lexeme.TheVariants as t
-use Rattle.rw_parser_grammar.specs.Read.{same_mark}
-use Rattle.rw_parser_grammar.specs.ReadProgram.{run_at}
+use Rattle.rw_parser_reading.specs.Read.{same_mark}
+use Rattle.rw_parser_reading.specs.ReadProgram.{run_at}
 
 -- how many braces are open behind a token, with so many before it; nothing where the token ends the run
 abbrev pub depth_after : ℕ → Lexeme → Option ℕ

@@ -4,9 +4,9 @@ use Rattle.rw_base.specs.declared.place.Place.{Place}
 use Rattle.rw_base.specs.declared.place.Span.{Span}
 use Rattle.rw_tree.specs.declared.decl.Decl.{Decl}
 use Rattle.rw_parser_grammar.specs.declared.item.Item.{Item}
-use Rattle.rw_parser_grammar.specs.Frames.{frames_of_item, kept}
+use Rattle.rw_parser_reading.specs.Frames.{frames_of_item, kept}
 use Rattle.rw_parser_grammar.specs.Levels.{max_levels}
-use Rattle.rw_parser_grammar.specs.Shallow.{is_fixity, item_place}
+use Rattle.rw_parser_reading.specs.Shallow.{is_fixity, item_place}
 use Rattle.rw_parser_parts.specs.declared.joined.Group.{Group}
 use Rattle.rw_parser.specs.Joined.{with_item}
 

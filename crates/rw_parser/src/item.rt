@@ -1,8 +1,8 @@
 // One item of a program, from its first token to the one behind its last, over the reader of a clause. The grammar rule
 // stands above each function.
 ghost use Rattle.std.specs.Prelude.{◌≡◌, ◌≤◌, ℕ, length};
-ghost use Rattle.rw_parser_grammar.specs.ReadClauses as clauses;
-ghost use Rattle.rw_parser_grammar.specs.ReadDeclarations as spec;
+ghost use Rattle.rw_parser_reading.specs.ReadClauses as clauses;
+ghost use Rattle.rw_parser_reading.specs.ReadDeclarations as spec;
 ghost use Rattle.rw_base.specs.Answers.{Gives};
 ghost use Rattle.rw_parser.specs.Clauses.{ReadsClauses};
 ghost use Rattle.rw_parser.specs.Kept as keep;
@@ -29,7 +29,7 @@ fn goes_signed(tokens: &[Lexeme]) -> bool
 }
 
 // Operator `)` (`,` | `::`)
-#[tactic(auto, unfolding(rw_parser_grammar::specs::ReadClauses::operator_closed_at, rw_parser_grammar::specs::Read::after))]
+#[tactic(auto, unfolding(rw_parser_reading::specs::ReadClauses::operator_closed_at, rw_parser_reading::specs::Read::after))]
 fn closes_signed(tokens: &[Lexeme]) -> bool
     ensures { result ≡ spec.goes_signed (clauses.operator_closed_at tokens.now) }
 {

@@ -1,6 +1,6 @@
 // What is kept of the items of a program: those before the first that is too deep, and the fixity declarations behind it.
 ghost use Rattle.std.specs.Prelude.{◌≡◌, IfOk};
-ghost use Rattle.rw_parser_grammar.specs.Shallow as shallow;
+ghost use Rattle.rw_parser_reading.specs.Shallow as shallow;
 ghost use Rattle.rw_parser.specs.Shallow as spec;
 
 use crate::join::{Joined, with_item};

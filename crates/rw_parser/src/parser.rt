@@ -8,7 +8,7 @@ ghost use Rattle.rw_tree.specs.declared.program.Program.{Program};
 ghost use Rattle.rw_parser_grammar.specs.Chains.{strength_of_name};
 ghost use Rattle.rw_parser_grammar.specs.Grammar as grammar;
 ghost use Rattle.rw_parser_grammar.specs.Grammar.{Spells, IsNotOfTheGrammar};
-ghost use Rattle.rw_parser_grammar.specs.ReadProgram as spec;
+ghost use Rattle.rw_parser_reading.specs.ReadProgram as spec;
 ghost use Rattle.rw_parser_grammar.specs.Resolution.{IsProgramResolved, FirstDeclarationBroken};
 ghost use Rattle.rw_parser_fixity.specs.Found as found;
 ghost use Rattle.rw_base.specs.Answers.{Gives};

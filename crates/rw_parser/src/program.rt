@@ -4,7 +4,7 @@ ghost use Rattle.rw_base.specs.declared.fail.Failure.TheVariants as fail;
 ghost use Rattle.rw_base.specs.declared.rule.Rule.TheVariants as rule;
 ghost use Rattle.rw_parser_grammar.specs.declared.lexeme.Lexeme.{Lexeme};
 ghost use Rattle.rw_parser_grammar.specs.Grammar.{whole_run};
-ghost use Rattle.rw_parser_grammar.specs.ReadProgram as spec;
+ghost use Rattle.rw_parser_reading.specs.ReadProgram as spec;
 ghost use Rattle.rw_base.specs.Answers.{Gives};
 ghost use Rattle.rw_parser.specs.Shallow.{kept_behind, nothing};
 ghost use Rattle.rw_parser.specs.Clauses.{ReadsClauses};

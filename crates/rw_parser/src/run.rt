@@ -1,7 +1,7 @@
 // The runs of tokens that the items of a program are: each goes up to a semicolon of the outer braces, or to the closing
 // one, which is the last token of all.
 ghost use Rattle.std.specs.Prelude.{◌≡◌, ◌+◌, ◌<◌, ◌≤◌, ◌^◌, length, drop, is_some, IfSome};
-ghost use Rattle.rw_parser_grammar.specs.ReadProgram as spec;
+ghost use Rattle.rw_parser_reading.specs.ReadProgram as spec;
 ghost use Rattle.rw_parser.specs.Runs as runs;
 ghost use Rattle.rw_parser.specs.Runs.{Ends};
 

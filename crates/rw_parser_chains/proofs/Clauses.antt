@@ -8,7 +8,7 @@ use Rattle.rw_parser_grammar.specs.Chains.{Strength}
 use Rattle.rw_parser_grammar.specs.Levels.{max_levels, alternative_levels}
 use Rattle.rw_parser_grammar.specs.Resolved.{IsRowResolved}
 use Rattle.rw_parser_grammar.specs.Resolution.{IsRowBroken}
-use Rattle.rw_parser_grammar.proofs.ReadExact.{some_is}
+use Rattle.rw_parser_reading.proofs.ReadExact.{some_is}
 use Rattle.rw_parser_chains.specs.Resolving.{row_made}
 use Rattle.rw_parser_chains.proofs.Sizes.{row_size}
 use Rattle.rw_parser_chains.proofs.Made.{row_is}

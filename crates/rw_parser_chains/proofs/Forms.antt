@@ -15,7 +15,7 @@ use Rattle.rw_tree.specs.declared.clause.Rhs.{Rhs}
 use Rattle.rw_tree.specs.declared.clause.Rhs.TheVariants as rhs
 use Rattle.rw_tree.specs.declared.clause.Stmt.{Stmt}
 use Rattle.rw_tree.specs.declared.clause.Stmt.TheVariants as stmt
-use Rattle.rw_parser_grammar.specs.Read.{◌>>=◌}
+use Rattle.rw_parser_reading.specs.Read.{◌>>=◌}
 use Rattle.rw_parser_grammar.specs.Chains.{Strength}
 use Rattle.rw_parser_chains.specs.Grouping.{above, grouped_of}
 use Rattle.rw_parser_chains.specs.Resolving.{Made, pattern_fits, patterns_fit, type_fits, all_of, each_of, below_of, local_step, rhs_step, stmt_step, expr_step, alt_step, guard_step, expression_made, row_made, side_made, guard_made, local_made, statement_made}

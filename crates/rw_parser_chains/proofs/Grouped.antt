@@ -5,7 +5,7 @@ use Rattle.rw_base.specs.declared.place.Span.{Span}
 use Rattle.rw_tree.specs.declared.expr.Expr.{Expr}
 use Rattle.rw_parser_grammar.specs.Levels.{max_levels}
 use Rattle.rw_parser_grammar.specs.Chains.{Strength, operator_name, groups_left, groups_right, operation, IsGrouped, one_operand, grouped_at}
-use Rattle.rw_parser_grammar.proofs.ReadExact.{bind_some, chosen, some_is}
+use Rattle.rw_parser_reading.proofs.ReadExact.{bind_some, chosen, some_is}
 use Rattle.rw_parser_chains.specs.Grouping.{Counted, counted, Waiting, operated, strength_of, settled, closed, grouped_from, grouped_of}
 use Rattle.rw_parser_chains.proofs.Strengths.{from_both, all_left_through, all_right_through, all_joined}
 use Rattle.rw_parser_chains.proofs.Nodes.{Fair, AllFair, operated_gave, operated_within}

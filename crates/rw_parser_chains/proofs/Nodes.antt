@@ -9,7 +9,7 @@ use Rattle.rw_tree.proofs.Plains.{expression-Apply}
 use Rattle.rw_parser_grammar.specs.Lexemes.{span_over}
 use Rattle.rw_parser_grammar.specs.Levels.{max_levels, expression_levels}
 use Rattle.rw_parser_grammar.specs.Chains.{operator_name, expression_span, operation}
-use Rattle.rw_parser_grammar.proofs.ReadExact.{bind_some, chosen, some_is}
+use Rattle.rw_parser_reading.proofs.ReadExact.{bind_some, chosen, some_is}
 use Rattle.rw_parser_chains.specs.Grouping.{levels_of, Counted, counted, above, operated}
 
 -- what is counted of a tree is how many levels it has

@@ -14,7 +14,7 @@ use Rattle.rw_parser_grammar.specs.Resolved as d
 use Rattle.rw_parser_grammar.specs.Resolved.{IsRowResolved, AreRowsResolved}
 use Rattle.rw_parser_grammar.specs.Resolution as p
 use Rattle.rw_parser_grammar.specs.Resolution.{IsDeclarationResolved, IsShallow, AreDeclarationsResolved, IsProgramResolved, IsRowBroken, FirstRowBroken, FirstDeclarationBroken}
-use Rattle.rw_parser_grammar.proofs.ReadExact.{some_is}
+use Rattle.rw_parser_reading.proofs.ReadExact.{some_is}
 use Rattle.rw_parser_chains.proofs.Sizes.{row_size, all_size}
 use Rattle.rw_parser_chains.proofs.Made.{rows_are}
 

@@ -19,7 +19,7 @@ use Rattle.rw_parser_grammar.specs.Levels.{max_levels}
 use Rattle.rw_parser_grammar.specs.Chains.{Strength}
 use Rattle.rw_parser_grammar.specs.Resolved as d
 use Rattle.rw_parser_grammar.specs.Resolved.{IsResolved, AreResolved, IsRowResolved, AreRowsResolved, IsSideResolved, AreGuardsResolved, AreLocalsResolved, AreStatementsResolved}
-use Rattle.rw_parser_grammar.proofs.ReadExact.{bind_some, chosen, some_is, moved}
+use Rattle.rw_parser_reading.proofs.ReadExact.{bind_some, chosen, some_is, moved}
 use Rattle.rw_parser_chains.specs.Grouping.{levels_of, Counted, above}
 use Rattle.rw_parser_chains.specs.Resolving.{Made, fits, pattern_fits, patterns_fit, type_fits, all_of, each_of, below_of, expression_made, row_made, side_made, guard_made, local_made, statement_made}
 use Rattle.rw_parser_chains.proofs.Nodes.{above_gave, AllFair}

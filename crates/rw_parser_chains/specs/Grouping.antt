@@ -7,7 +7,7 @@ use Rattle.rw_tree.specs.declared.expr.Expr.{Expr}
 use Rattle.rw_tree.specs.declared.expr.Expr.TheVariants as e
 use Rattle.rw_tree.specs.Trees.{expression}
 use Rattle.rw_parser_grammar.specs.Lexemes.{span_over}
-use Rattle.rw_parser_grammar.specs.Read.{◌>>=◌}
+use Rattle.rw_parser_reading.specs.Read.{◌>>=◌}
 use Rattle.rw_parser_grammar.specs.Levels.{max_levels, expression_levels}
 use Rattle.rw_parser_grammar.specs.Chains.{Strength, operator_name, expression_span, groups_left, groups_right, operation}
 

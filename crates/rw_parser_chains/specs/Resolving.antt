@@ -16,7 +16,7 @@ use Rattle.rw_tree.specs.declared.clause.Stmt.{Stmt, fold-Stmt}
 use Rattle.rw_tree.specs.declared.clause.Stmt.TheVariants as s
 use Rattle.rw_tree.specs.Types.{written}
 use Rattle.rw_tree.specs.Patterns.{pattern, patterns}
-use Rattle.rw_parser_grammar.specs.Read.{◌>>=◌}
+use Rattle.rw_parser_reading.specs.Read.{◌>>=◌}
 use Rattle.rw_parser_grammar.specs.Chains.{Strength}
 use Rattle.rw_parser_grammar.specs.Levels.{max_levels, type_levels, pattern_levels, row_patterns_levels}
 use Rattle.rw_parser_chains.specs.Grouping.{Waiting, above, closed, settled, grouped_of}

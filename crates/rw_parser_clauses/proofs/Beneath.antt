@@ -3,7 +3,7 @@ use Rattle.std.proofs.Common.{◌≡◌, ℕ, zero, suc, ◌+◌, Bool, true, fa
 use Rattle.rw_base.specs.declared.place.Span.{Span}
 use Rattle.rw_tree.specs.declared.expr.Expr.{Expr}
 use Rattle.rw_parser_grammar.specs.declared.lexeme.Lexeme.{Lexeme}
-use Rattle.rw_parser_grammar.specs.ReadClauses.{locals_over_at}
+use Rattle.rw_parser_reading.specs.ReadClauses.{locals_over_at}
 use Rattle.rw_parser_parts.specs.Within.{expression_within, locals_within, expression_beneath, locals_beneath}
 use Rattle.rw_parser_parts.specs.declared.frame.Frame.{Frame}
 use Rattle.rw_parser_parts.specs.declared.frame.Step.TheVariants as step

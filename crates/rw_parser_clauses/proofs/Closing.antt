@@ -9,10 +9,10 @@ use Rattle.rw_parser_grammar.specs.declared.lexeme.Mark.TheVariants as m
 use Rattle.rw_parser_grammar.specs.declared.lexeme.Lexeme.{Lexeme}
 use Rattle.rw_parser_grammar.specs.Lexemes.{span_of}
 use Rattle.rw_parser_grammar.specs.Expressions.{chained}
-use Rattle.rw_parser_grammar.specs.Read.{◌>>=◌, Read, sees, after}
-use Rattle.rw_parser_grammar.specs.ReadTypes.{begins_apat, apats_at}
-use Rattle.rw_parser_grammar.specs.ReadNames.{begins_op, op_at}
-use Rattle.rw_parser_grammar.specs.ReadExpressions.{lambda_at, let_at, if_at, begins_last, closing_at, chain_at, expression_over_at}
+use Rattle.rw_parser_reading.specs.Read.{◌>>=◌, Read, sees, after}
+use Rattle.rw_parser_reading.specs.ReadTypes.{begins_apat, apats_at}
+use Rattle.rw_parser_reading.specs.ReadNames.{begins_op, op_at}
+use Rattle.rw_parser_reading.specs.ReadExpressions.{lambda_at, let_at, if_at, begins_last, closing_at, chain_at, expression_over_at}
 use Rattle.rw_parser_parts.specs.declared.frame.Head.{Head}
 use Rattle.rw_parser_parts.specs.declared.frame.Head.TheVariants as h
 use Rattle.rw_parser_parts.specs.declared.frame.Chain.{Chain}

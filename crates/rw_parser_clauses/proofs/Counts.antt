@@ -11,8 +11,8 @@ use Rattle.rw_parser_grammar.specs.declared.item.Bound.TheVariants as b
 use Rattle.rw_parser_grammar.specs.declared.lexeme.Lexeme.{Lexeme}
 use Rattle.rw_parser_grammar.specs.Lexemes.{span_at}
 use Rattle.rw_parser_grammar.specs.Clauses.{Group, alone, clauses, clause_before, local_groups, rows_span, locals_of}
-use Rattle.rw_parser_grammar.specs.Frames.{most, frames_of_type, frames_of_expression, frames_of_row, frames_of_local, frames_of_bound}
-use Rattle.rw_parser_grammar.proofs.FramesOf.{frames-type-Tuple, frames-type-Fun, frames-Lambda, frames-Let, frames-If, frames-chained, frames-local-Fun}
+use Rattle.rw_parser_reading.specs.Frames.{most, frames_of_type, frames_of_expression, frames_of_row, frames_of_local, frames_of_bound}
+use Rattle.rw_parser_reading.proofs.FramesOf.{frames-type-Tuple, frames-type-Fun, frames-Lambda, frames-Let, frames-If, frames-chained, frames-local-Fun}
 use Rattle.rw_parser_parts.specs.declared.frame.Head.{Head}
 use Rattle.rw_parser_parts.specs.declared.frame.Head.TheVariants as h
 use Rattle.rw_parser_parts.specs.declared.frame.Frame.{Frame}

@@ -4,10 +4,10 @@ use Rattle.rw_base.specs.declared.place.Span.{Span}
 use Rattle.rw_tree.specs.declared.expr.Expr.{Expr}
 use Rattle.rw_tree.specs.declared.clause.Local.{Local}
 use Rattle.rw_parser_grammar.specs.declared.lexeme.Lexeme.{Lexeme}
-use Rattle.rw_parser_grammar.specs.Frames.{most, frames_of_expression, frames_of_local, frames_of_bound}
-use Rattle.rw_parser_grammar.specs.Read.{◌>>=◌, Read}
-use Rattle.rw_parser_grammar.specs.ReadExpressions.{closing_at}
-use Rattle.rw_parser_grammar.specs.ReadClauses.{alternative_at, alternatives_at, locals_over_at, statement_at, statements_at}
+use Rattle.rw_parser_reading.specs.Frames.{most, frames_of_expression, frames_of_local, frames_of_bound}
+use Rattle.rw_parser_reading.specs.Read.{◌>>=◌, Read}
+use Rattle.rw_parser_reading.specs.ReadExpressions.{closing_at}
+use Rattle.rw_parser_reading.specs.ReadClauses.{alternative_at, alternatives_at, locals_over_at, statement_at, statements_at}
 use Rattle.rw_parser_patterns.specs.Depth.{any_type_at, any_pattern_at}
 use Rattle.rw_parser_parts.specs.declared.frame.Head.{Head}
 use Rattle.rw_parser_parts.specs.declared.frame.Frame.{Frame}

@@ -5,10 +5,10 @@ use Rattle.rw_tree.specs.declared.expr.Expr.{Expr}
 use Rattle.rw_tree.specs.declared.clause.Alt.{Alt}
 use Rattle.rw_tree.specs.declared.clause.Local.{Local}
 use Rattle.rw_parser_grammar.specs.declared.lexeme.Lexeme.{Lexeme}
-use Rattle.rw_parser_grammar.specs.Frames.{most, frames_of_expression, frames_of_local, cut}
-use Rattle.rw_parser_grammar.specs.Read.{Read}
-use Rattle.rw_parser_grammar.specs.ReadLevels.{clause_over, expression_at, locals_at}
-use Rattle.rw_parser_grammar.proofs.Alike.{Alike, left}
+use Rattle.rw_parser_reading.specs.Frames.{most, frames_of_expression, frames_of_local, cut}
+use Rattle.rw_parser_reading.specs.Read.{Read}
+use Rattle.rw_parser_reading.specs.ReadLevels.{clause_over, expression_at, locals_at}
+use Rattle.rw_parser_reading.proofs.Alike.{Alike, left}
 use Rattle.rw_parser_parts.specs.Within.{expression_within, locals_within}
 use Rattle.rw_parser_clauses.specs.Clause.{frames_of_clause}
 use Rattle.rw_parser_clauses.specs.Inside.{clause_inside}

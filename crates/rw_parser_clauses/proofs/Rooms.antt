@@ -2,10 +2,10 @@
 use Rattle.std.proofs.Common.{◌≡◌, ℕ, suc, min, nat_le, ◌<◌, ◌≤◌, true, false, List, length, Option, Some, None, refl, sym, ap, subst, ◌∙◌, ◌⊎◌, inl, inr, arith}
 use Rattle.std.proofs.lemmas.Bool.Decides.{nat_tests}
 use Rattle.rw_parser_grammar.specs.declared.lexeme.Lexeme.{Lexeme}
-use Rattle.rw_parser_grammar.specs.Frames.{kept, cut}
-use Rattle.rw_parser_grammar.specs.Read.{Read}
-use Rattle.rw_parser_grammar.proofs.ReadExact.{some_is}
-use Rattle.rw_parser_grammar.proofs.Alike.{Alike, left}
+use Rattle.rw_parser_reading.specs.Frames.{kept, cut}
+use Rattle.rw_parser_reading.specs.Read.{Read}
+use Rattle.rw_parser_reading.proofs.ReadExact.{some_is}
+use Rattle.rw_parser_reading.proofs.Alike.{Alike, left}
 use Rattle.rw_parser_clauses.proofs.Small.{Small, Together, neither, both}
 
 least : (n room : ℕ) → n ≤ room → nat_le n room ≡ true

@@ -4,8 +4,8 @@ use Rattle.std.proofs.Common.{◌≡◌, ℕ, zero, suc, max, ◌≤◌, ◌<◌
 use Rattle.rw_parser_grammar.specs.declared.lexeme.Mark.{Mark}
 use Rattle.rw_parser_grammar.specs.declared.lexeme.Mark.TheVariants as m
 use Rattle.rw_parser_grammar.specs.declared.lexeme.Lexeme.{Lexeme}
-use Rattle.rw_parser_grammar.specs.Frames.{most}
-use Rattle.rw_parser_grammar.specs.Read.{◌>>=◌, Read, sees, after, separated_at, many_at, entries_at, block_at}
+use Rattle.rw_parser_reading.specs.Frames.{most}
+use Rattle.rw_parser_reading.specs.Read.{◌>>=◌, Read, sees, after, separated_at, many_at, entries_at, block_at}
 
 -- nothing is asked
 abbrev pub unseen : {A : Type 0} → A → Unit {0}

@@ -19,11 +19,11 @@ use Rattle.rw_parser_grammar.specs.declared.lexeme.Mark.TheVariants as m
 use Rattle.rw_parser_grammar.specs.declared.lexeme.Lexeme.{Lexeme}
 use Rattle.rw_parser_grammar.specs.Lexemes.{span_of}
 use Rattle.rw_parser_grammar.specs.Clauses.{may_be_local, local_groups, locals_of, ends_in_run}
-use Rattle.rw_parser_grammar.specs.Frames.{most, frames_of_type, frames_of_expression, frames_of_row, frames_of_side, frames_of_guard, frames_of_local, frames_of_statement, frames_of_bound, kept, cut}
-use Rattle.rw_parser_grammar.specs.Read.{◌>>=◌, Read, sees, after, block_at, variable_at}
-use Rattle.rw_parser_grammar.specs.ReadClauses.{is_some, guard_at, guards_at, right_side_at, where_at, clause_at, alternative_at, alternatives_at, begins_infix, begins_binding}
-use Rattle.rw_parser_grammar.specs.ReadClauses.{begins_signature, local_signature_at, local_clause_at, local_pattern_at, local_at, locals_over_at, begins_bind, bind_at, let_statement_at, run_at, statement_at, statements_at}
-use Rattle.rw_parser_grammar.proofs.FramesOf.{frames-Plain, frames-Guarded, frames-guard, frames-row, frames-local-Sig, frames-local-Pattern, frames-Let, frames-Bind, frames-statement-Let, frames-Run}
+use Rattle.rw_parser_reading.specs.Frames.{most, frames_of_type, frames_of_expression, frames_of_row, frames_of_side, frames_of_guard, frames_of_local, frames_of_statement, frames_of_bound, kept, cut}
+use Rattle.rw_parser_reading.specs.Read.{◌>>=◌, Read, sees, after, block_at, variable_at}
+use Rattle.rw_parser_reading.specs.ReadClauses.{is_some, guard_at, guards_at, right_side_at, where_at, clause_at, alternative_at, alternatives_at, begins_infix, begins_binding}
+use Rattle.rw_parser_reading.specs.ReadClauses.{begins_signature, local_signature_at, local_clause_at, local_pattern_at, local_at, locals_over_at, begins_bind, bind_at, let_statement_at, run_at, statement_at, statements_at}
+use Rattle.rw_parser_reading.proofs.FramesOf.{frames-Plain, frames-Guarded, frames-guard, frames-row, frames-local-Sig, frames-local-Pattern, frames-Let, frames-Bind, frames-statement-Let, frames-Run}
 use Rattle.rw_parser_patterns.specs.Depth.{any_type_at, any_pattern_at}
 use Rattle.rw_parser_parts.specs.Within.{in_place, signature_within, let_within, let_statement_within, statement_within}
 use Rattle.rw_parser_clauses.specs.Clause.{frames_of_clause}

@@ -14,11 +14,11 @@ use Rattle.rw_parser_grammar.specs.declared.lexeme.Lexeme.TheVariants as t
 use Rattle.rw_parser_grammar.specs.Lexemes.{span_at, span_of}
 use Rattle.rw_parser_grammar.specs.Types.{few}
 use Rattle.rw_parser_grammar.specs.Expressions.{grouped_expression, applied_expression, chained}
-use Rattle.rw_parser_grammar.specs.Frames.{most, frames_of_expression, frames_of_row, frames_of_local, frames_of_statement}
-use Rattle.rw_parser_grammar.specs.Read.{Read, same_mark, sees, after, separated_at, begins_operator}
-use Rattle.rw_parser_grammar.specs.ReadNames.{begins_op, op_at}
-use Rattle.rw_parser_grammar.specs.ReadExpressions.{begins_aexp, operator_group_at, some_expressions_at, group_at, aexp_at, aexps_at, application_at, case_at, do_at, operand_at, begins_last}
-use Rattle.rw_parser_grammar.proofs.FramesOf.{frames-Case, frames-Do, frames-grouped, frames-applied, frames-chained}
+use Rattle.rw_parser_reading.specs.Frames.{most, frames_of_expression, frames_of_row, frames_of_local, frames_of_statement}
+use Rattle.rw_parser_reading.specs.Read.{Read, same_mark, sees, after, separated_at, begins_operator}
+use Rattle.rw_parser_reading.specs.ReadNames.{begins_op, op_at}
+use Rattle.rw_parser_reading.specs.ReadExpressions.{begins_aexp, operator_group_at, some_expressions_at, group_at, aexp_at, aexps_at, application_at, case_at, do_at, operand_at, begins_last}
+use Rattle.rw_parser_reading.proofs.FramesOf.{frames-Case, frames-Do, frames-grouped, frames-applied, frames-chained}
 use Rattle.rw_parser_parts.specs.declared.frame.Head.{Head}
 use Rattle.rw_parser_parts.specs.declared.frame.Head.TheVariants as h
 use Rattle.rw_parser_parts.specs.declared.frame.Chain.{Chain}

@@ -6,14 +6,14 @@ use Rattle.rw_tree.specs.declared.clause.Alt.{Alt}
 use Rattle.rw_tree.specs.declared.clause.Local.{Local}
 use Rattle.rw_parser_grammar.specs.declared.item.Bound.{Bound}
 use Rattle.rw_parser_grammar.specs.declared.lexeme.Lexeme.{Lexeme}
-use Rattle.rw_parser_grammar.specs.Read.{Read, after, block_at}
-use Rattle.rw_parser_grammar.specs.ReadTypes.{type_at, apats_at, pattern_at}
-use Rattle.rw_parser_grammar.specs.ReadExpressions.{operand_at, closing_at, chain_at, expression_over_at}
-use Rattle.rw_parser_grammar.specs.ReadClauses.{clause_at, alternative_at, alternatives_at, binding_at, local_at, locals_over_at, statement_at, statements_at}
-use Rattle.rw_parser_grammar.specs.ReadLevels.{clause_over, local_over, alternatives_over, operand_over, expression_over, expression_at, locals_at, expression_below, locals_below}
-use Rattle.rw_parser_grammar.proofs.Alike.{Alike, left, Agree, Pass, apats_alike}
-use Rattle.rw_parser_grammar.proofs.AlikeExpressions.{operand_alike, closing_alike, expression_over_alike, left_side_alike, binding_alike, clause_alike, local_alike, alternatives_alike, locals_over_alike, statements_alike}
-use Rattle.rw_parser_grammar.proofs.Enough.{shorter_agree, shorter_pass, types_agree, patterns_agree}
+use Rattle.rw_parser_reading.specs.Read.{Read, after, block_at}
+use Rattle.rw_parser_reading.specs.ReadTypes.{type_at, apats_at, pattern_at}
+use Rattle.rw_parser_reading.specs.ReadExpressions.{operand_at, closing_at, chain_at, expression_over_at}
+use Rattle.rw_parser_reading.specs.ReadClauses.{clause_at, alternative_at, alternatives_at, binding_at, local_at, locals_over_at, statement_at, statements_at}
+use Rattle.rw_parser_reading.specs.ReadLevels.{clause_over, local_over, alternatives_over, operand_over, expression_over, expression_at, locals_at, expression_below, locals_below}
+use Rattle.rw_parser_reading.proofs.Alike.{Alike, left, Agree, Pass, apats_alike}
+use Rattle.rw_parser_reading.proofs.AlikeExpressions.{operand_alike, closing_alike, expression_over_alike, left_side_alike, binding_alike, clause_alike, local_alike, alternatives_alike, locals_over_alike, statements_alike}
+use Rattle.rw_parser_reading.proofs.Agree.{shorter_agree, shorter_pass, nothing_alike, types_agree, patterns_agree, no_expression, no_locals, no_below, no_lower}
 use Rattle.rw_parser_patterns.specs.Depth.{any_type_at, any_pattern_at}
 use Rattle.rw_parser_parts.specs.Within.{any_left_side_at, any_binding_at}
 
@@ -47,29 +47,6 @@ unfoldable mutual
   locals_low (suc n) ts = locals_any n ts
 
 -- ---- where there is nothing to read
-nothing_alike : {A : Type 0} {n : ℕ} (o p : Option (A × List Lexeme)) → o ≡ None → p ≡ None → Alike left n o p
-nothing_alike o p e d = record { same = e ∙ sym d; less = λ x c. absurd (let f : None ≡ Some x = sym e ∙ c in cc) }
-
-no_expression : (n : ℕ) → expression_at n [] ≡ None
-unfolding expression_at expression_over_at chain_at
-no_expression zero = refl
-no_expression (suc n) = refl
-
-no_locals : (n : ℕ) → locals_at n [] ≡ None
-unfolding locals_at locals_over_at block_at after
-no_locals zero = refl
-no_locals (suc n) = refl
-
-no_below : (n : ℕ) → expression_below n [] ≡ None
-unfolding expression_below
-no_below zero = refl
-no_below (suc n) = no_expression n
-
-no_lower : (n : ℕ) → locals_below n [] ≡ None
-unfolding locals_below
-no_lower zero = refl
-no_lower (suc n) = no_locals n
-
 no_expression_any : (n : ℕ) → expression_any n [] ≡ None
 unfolding expression_any expression_over_at chain_at
 no_expression_any zero = refl

@@ -2,7 +2,7 @@
 use Rattle.std.specs.Prelude.{ℕ, List}
 use Rattle.rw_base.specs.declared.place.Span.{Span}
 use Rattle.rw_tree.specs.declared.clause.Alt.{Alt}
-use Rattle.rw_parser_grammar.specs.Frames.{frames_of_row}
+use Rattle.rw_parser_reading.specs.Frames.{frames_of_row}
 
 -- how many frames stand inside one another in a clause
 abbrev pub frames_of_clause : List ℕ × Alt Span → ℕ

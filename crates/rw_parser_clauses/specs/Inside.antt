@@ -6,7 +6,7 @@ use Rattle.rw_tree.specs.declared.clause.Alt.{Alt}
 use Rattle.rw_tree.specs.declared.clause.Stmt.{Stmt}
 use Rattle.rw_parser_grammar.specs.declared.item.Bound.{Bound}
 use Rattle.rw_parser_grammar.specs.declared.lexeme.Lexeme.{Lexeme}
-use Rattle.rw_parser_grammar.specs.Read.{Read}
+use Rattle.rw_parser_reading.specs.Read.{Read}
 use Rattle.rw_parser_parts.specs.declared.frame.Head.{Head}
 use Rattle.rw_parser_parts.specs.declared.frame.Step.{Step}
 use Rattle.rw_parser_patterns.specs.Depth.{any_pattern_at}

@@ -1,6 +1,6 @@
 // Clauses and alternatives (Haskell 2010 Report, sections 3.13 and 4.4.3).
 ghost use Rattle.std.specs.Prelude.{◌≡◌, ◌∷◌, [], IfOk};
-ghost use Rattle.rw_parser_grammar.specs.ReadClauses as spec;
+ghost use Rattle.rw_parser_reading.specs.ReadClauses as spec;
 ghost use Rattle.rw_base.specs.Answers.{Gives};
 ghost use Rattle.rw_parser_patterns.specs.Depth.{any_pattern_at};
 ghost use Rattle.rw_parser_parts.specs.Nests.{Nests};
@@ -32,7 +32,7 @@ where
     L: Fn(Global, usize, usize, &[Lexeme]) -> Result<(Items<Local<Span>>, &[Lexeme]), Unread>,
 {
     // clause ::= lhs rhs [`where` locals]: its name, and the rest as a row
-    #[tactic(auto, unfolding(rw_parser_grammar::specs::ReadClauses::clause_at))]
+    #[tactic(auto, unfolding(rw_parser_reading::specs::ReadClauses::clause_at))]
     pub fn clause<'a>(
         &self,
         tokens: &'a [Lexeme],
@@ -59,7 +59,7 @@ where
     }
 
     // alt ::= pat `->` exp | pat (`|` exp `->` exp)+
-    #[tactic(auto, unfolding(rw_parser_grammar::specs::ReadClauses::alternative_at))]
+    #[tactic(auto, unfolding(rw_parser_reading::specs::ReadClauses::alternative_at))]
     fn alternative<'a>(&self, tokens: &'a [Lexeme]) -> Result<(Alt<Span>, &'a [Lexeme]), Unread>
         requires { Nests self.now.levels (E.pre self.now.expression) (E.post self.now.expression) (L.pre self.now.locals) (L.post self.now.locals) }
         ensures { Gives (λ x. (x.0, x.1.now)) result (spec.alternative_at any_pattern_at (within.expression_within self.now.levels self.now.room) tokens.now) }
@@ -81,7 +81,7 @@ where
     }
 
     // The alternatives of a `case`: `{` alt (`;` alt)* `}`, of which one at least is not nothing
-    #[tactic(auto, unfolding(rw_parser_grammar::specs::ReadClauses::alternatives_at))]
+    #[tactic(auto, unfolding(rw_parser_reading::specs::ReadClauses::alternatives_at))]
     pub fn alternatives<'a>(
         &self,
         tokens: &'a [Lexeme],

@@ -1,7 +1,7 @@
 // Local declarations (Haskell 2010 Report, sections 3.12 and 4.4.3).
 ghost use Rattle.std.specs.Prelude.{◌≡◌};
 ghost use Rattle.rw_parser_grammar.specs.Clauses as grammar;
-ghost use Rattle.rw_parser_grammar.specs.ReadClauses as spec;
+ghost use Rattle.rw_parser_reading.specs.ReadClauses as spec;
 ghost use Rattle.rw_base.specs.Answers.{Gives};
 ghost use Rattle.rw_parser_parts.specs.Nests.{Nests};
 ghost use Rattle.rw_parser_parts.specs.Within as within;
@@ -31,7 +31,7 @@ where
     L: Fn(Global, usize, usize, &[Lexeme]) -> Result<(Items<Local<Span>>, &[Lexeme]), Unread>,
 {
     // var `::` type
-    #[tactic(auto, unfolding(rw_parser_grammar::specs::ReadClauses::local_signature_at))]
+    #[tactic(auto, unfolding(rw_parser_reading::specs::ReadClauses::local_signature_at))]
     fn local_signature<'a>(&self, tokens: &'a [Lexeme]) -> Result<(Bound, &'a [Lexeme]), Unread>
         requires { Nests self.now.levels (E.pre self.now.expression) (E.post self.now.expression) (L.pre self.now.locals) (L.post self.now.locals) }
         ensures { Gives (λ x. (x.0, x.1.now)) result (spec.local_signature_at within.any_binding_at (within.signature_within self.now.room) (inside.clause_inside self.now.levels self.now.room) (within.expression_within self.now.levels self.now.room) (within.locals_within self.now.levels self.now.room) tokens.now) }
@@ -51,7 +51,7 @@ where
     }
 
     // clause, if a local one may bind its name
-    #[tactic(auto, unfolding(rw_parser_grammar::specs::ReadClauses::local_clause_at))]
+    #[tactic(auto, unfolding(rw_parser_reading::specs::ReadClauses::local_clause_at))]
     fn local_clause<'a>(&self, tokens: &'a [Lexeme]) -> Result<(Bound, &'a [Lexeme]), Unread>
         requires { Nests self.now.levels (E.pre self.now.expression) (E.post self.now.expression) (L.pre self.now.locals) (L.post self.now.locals) }
         ensures { Gives (λ x. (x.0, x.1.now)) result (spec.local_clause_at within.any_binding_at (within.signature_within self.now.room) (inside.clause_inside self.now.levels self.now.room) (within.expression_within self.now.levels self.now.room) (within.locals_within self.now.levels self.now.room) tokens.now) }
@@ -64,7 +64,7 @@ where
     }
 
     // ppat rhs [`where` locals]
-    #[tactic(auto, unfolding(rw_parser_grammar::specs::ReadClauses::local_pattern_at))]
+    #[tactic(auto, unfolding(rw_parser_reading::specs::ReadClauses::local_pattern_at))]
     fn local_pattern<'a>(&self, tokens: &'a [Lexeme]) -> Result<(Bound, &'a [Lexeme]), Unread>
         requires { Nests self.now.levels (E.pre self.now.expression) (E.post self.now.expression) (L.pre self.now.locals) (L.post self.now.locals) }
         ensures { Gives (λ x. (x.0, x.1.now)) result (spec.local_pattern_at within.any_binding_at (within.signature_within self.now.room) (inside.clause_inside self.now.levels self.now.room) (within.expression_within self.now.levels self.now.room) (within.locals_within self.now.levels self.now.room) tokens.now) }
@@ -89,7 +89,7 @@ where
     }
 
     // local ::= var `::` type | clause | ppat rhs [`where` locals]
-    #[tactic(auto, unfolding(rw_parser_grammar::specs::ReadClauses::local_at))]
+    #[tactic(auto, unfolding(rw_parser_reading::specs::ReadClauses::local_at))]
     fn local<'a>(&self, tokens: &'a [Lexeme]) -> Result<(Bound, &'a [Lexeme]), Unread>
         requires { Nests self.now.levels (E.pre self.now.expression) (E.post self.now.expression) (L.pre self.now.locals) (L.post self.now.locals) }
         ensures { Gives (λ x. (x.0, x.1.now)) result (inside.local_inside self.now.levels self.now.room tokens.now) }
@@ -104,7 +104,7 @@ where
     }
 
     // locals ::= `{` local (`;` local)* `}`, where a local may be nothing
-    #[tactic(auto, unfolding(rw_parser_grammar::specs::ReadClauses::locals_over_at))]
+    #[tactic(auto, unfolding(rw_parser_reading::specs::ReadClauses::locals_over_at))]
     pub fn locals_over<'a>(
         &self,
         tokens: &'a [Lexeme],

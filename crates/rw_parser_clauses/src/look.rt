@@ -1,10 +1,10 @@
 // What tokens begin with, as far as a few tokens tell.
 ghost use Rattle.std.specs.Prelude.{◌≡◌};
-ghost use Rattle.rw_parser_grammar.specs.Read as reads;
+ghost use Rattle.rw_parser_reading.specs.Read as reads;
 ghost use Rattle.rw_parser_grammar.specs.Lexemes as lexemes;
-ghost use Rattle.rw_parser_grammar.specs.ReadNames as names;
-ghost use Rattle.rw_parser_grammar.specs.ReadExpressions as expressions;
-ghost use Rattle.rw_parser_grammar.specs.ReadClauses as clauses;
+ghost use Rattle.rw_parser_reading.specs.ReadNames as names;
+ghost use Rattle.rw_parser_reading.specs.ReadExpressions as expressions;
+ghost use Rattle.rw_parser_reading.specs.ReadClauses as clauses;
 
 use rw_base::Span;
 use rw_parser_grammar::{Lexeme, Mark};

@@ -1,5 +1,5 @@
 // Operators where they are used (Haskell 2010 Report, section 3.2).
-ghost use Rattle.rw_parser_grammar.specs.ReadNames as names;
+ghost use Rattle.rw_parser_reading.specs.ReadNames as names;
 ghost use Rattle.rw_base.specs.Answers.{Gives};
 
 use rw_base::{NotSpelled, Span, Unread};

@@ -3,9 +3,9 @@
 ghost use Rattle.std.specs.Prelude.{◌≡◌, length, IfOk};
 ghost use Rattle.rw_parser_grammar.specs.declared.lexeme.Mark.TheVariants as m;
 ghost use Rattle.rw_parser_grammar.specs.Expressions as grammar;
-ghost use Rattle.rw_parser_grammar.specs.Read.{separated_at};
-ghost use Rattle.rw_parser_grammar.specs.ReadExpressions as spec;
-ghost use Rattle.rw_parser_grammar.specs.ReadClauses.{statements_at};
+ghost use Rattle.rw_parser_reading.specs.Read.{separated_at};
+ghost use Rattle.rw_parser_reading.specs.ReadExpressions as spec;
+ghost use Rattle.rw_parser_reading.specs.ReadClauses.{statements_at};
 ghost use Rattle.rw_base.specs.Answers.{Gives};
 ghost use Rattle.rw_parser_parts.specs.Nests.{Nests};
 ghost use Rattle.rw_parser_parts.specs.Within as within;
@@ -73,7 +73,7 @@ where
     }
 
     // exp (`,` exp)* `)`, at most 8, behind an opening parenthesis at this spot
-    #[tactic(auto, unfolding(rw_parser_grammar::specs::ReadExpressions::some_expressions_at))]
+    #[tactic(auto, unfolding(rw_parser_reading::specs::ReadExpressions::some_expressions_at))]
     fn some_expressions<'a>(
         &self,
         at: Spot,
@@ -91,7 +91,7 @@ where
     }
 
     // Operator `)`
-    #[tactic(auto, unfolding(rw_parser_grammar::specs::ReadExpressions::operator_group_at))]
+    #[tactic(auto, unfolding(rw_parser_reading::specs::ReadExpressions::operator_group_at))]
     fn operator_group<'a>(&self, tokens: &'a [Lexeme]) -> Result<(Expr<Span>, &'a [Lexeme]), Unread>
         ensures { Gives (λ x. (x.0, x.1.now)) result (spec.operator_group_at (within.expression_within self.now.levels self.now.room) tokens.now) }
     {
@@ -108,7 +108,7 @@ where
     }
 
     // Behind an opening parenthesis: `)` | Operator `)` | exp (`,` exp)* `)`
-    #[tactic(auto, unfolding(rw_parser_grammar::specs::ReadExpressions::group_at))]
+    #[tactic(auto, unfolding(rw_parser_reading::specs::ReadExpressions::group_at))]
     fn group<'a>(
         &self,
         at: Spot,
@@ -158,7 +158,7 @@ where
     }
 
     // aexp*
-    #[tactic(auto, unfolding(rw_parser_grammar::specs::ReadExpressions::aexps_at))]
+    #[tactic(auto, unfolding(rw_parser_reading::specs::ReadExpressions::aexps_at))]
     fn aexps<'a>(&self, tokens: &'a [Lexeme]) -> Result<(Items<Expr<Span>>, &'a [Lexeme]), Unread>
         requires { Nests self.now.levels (E.pre self.now.expression) (E.post self.now.expression) (L.pre self.now.locals) (L.post self.now.locals) }
         ensures { Gives (λ x. (x.0, x.1.now)) result (spec.aexps_at (within.expression_within self.now.levels self.now.room) tokens.now) }
@@ -177,7 +177,7 @@ where
     }
 
     // aexp+
-    #[tactic(auto, unfolding(rw_parser_grammar::specs::ReadExpressions::application_at))]
+    #[tactic(auto, unfolding(rw_parser_reading::specs::ReadExpressions::application_at))]
     fn application<'a>(&self, tokens: &'a [Lexeme]) -> Result<(Expr<Span>, &'a [Lexeme]), Unread>
         requires { Nests self.now.levels (E.pre self.now.expression) (E.post self.now.expression) (L.pre self.now.locals) (L.post self.now.locals) }
         ensures { Gives (λ x. (x.0, x.1.now)) result (spec.application_at (within.expression_within self.now.levels self.now.room) tokens.now) }
@@ -191,7 +191,7 @@ where
     }
 
     // `case` exp `of` alternatives
-    #[tactic(auto, unfolding(rw_parser_grammar::specs::ReadExpressions::case_at))]
+    #[tactic(auto, unfolding(rw_parser_reading::specs::ReadExpressions::case_at))]
     fn case<'a>(&self, tokens: &'a [Lexeme]) -> Result<(Expr<Span>, &'a [Lexeme]), Unread>
         requires { Nests self.now.levels (E.pre self.now.expression) (E.post self.now.expression) (L.pre self.now.locals) (L.post self.now.locals) }
         ensures { Gives (λ x. (x.0, x.1.now)) result (spec.case_at (within.expression_within self.now.levels self.now.room) (within.alternatives_within (within.expression_within self.now.levels self.now.room)) (statements_at (inside.statement_inside self.now.levels self.now.room)) tokens.now) }
@@ -204,7 +204,7 @@ where
     }
 
     // `do` statements
-    #[tactic(auto, unfolding(rw_parser_grammar::specs::ReadExpressions::do_at))]
+    #[tactic(auto, unfolding(rw_parser_reading::specs::ReadExpressions::do_at))]
     fn do_block<'a>(&self, tokens: &'a [Lexeme]) -> Result<(Expr<Span>, &'a [Lexeme]), Unread>
         requires { Nests self.now.levels (E.pre self.now.expression) (E.post self.now.expression) (L.pre self.now.locals) (L.post self.now.locals) }
         ensures { Gives (λ x. (x.0, x.1.now)) result (spec.do_at (within.expression_within self.now.levels self.now.room) (within.alternatives_within (within.expression_within self.now.levels self.now.room)) (statements_at (inside.statement_inside self.now.levels self.now.room)) tokens.now) }
@@ -214,7 +214,7 @@ where
     }
 
     // operand ::= aexp+ | `case` exp `of` alternatives | `do` statements
-    #[tactic(auto, unfolding(rw_parser_grammar::specs::ReadExpressions::operand_at))]
+    #[tactic(auto, unfolding(rw_parser_reading::specs::ReadExpressions::operand_at))]
     pub fn operand<'a>(&self, tokens: &'a [Lexeme]) -> Result<(Expr<Span>, &'a [Lexeme]), Unread>
         requires { Nests self.now.levels (E.pre self.now.expression) (E.post self.now.expression) (L.pre self.now.locals) (L.post self.now.locals) }
         ensures { Gives (λ x. (x.0, x.1.now)) result (inside.operand_inside self.now.levels self.now.room tokens.now) }

@@ -1,7 +1,7 @@
 // What tokens begin with: an expression, a block of local declarations, a clause.
 ghost use Rattle.std.specs.Prelude.{◌≡◌, ◌<◌, ◌≤◌, ℕ, suc, length, Some, None, Ok, IfOk};
-ghost use Rattle.rw_parser_grammar.specs.Frames.{frames_of_expression, frames_of_local, most, cut};
-ghost use Rattle.rw_parser_grammar.specs.ReadLevels as grammar;
+ghost use Rattle.rw_parser_reading.specs.Frames.{frames_of_expression, frames_of_local, most, cut};
+ghost use Rattle.rw_parser_reading.specs.ReadLevels as grammar;
 ghost use Rattle.rw_base.specs.Answers.{Gives};
 ghost use Rattle.rw_parser_clauses.specs.Clause.{frames_of_clause};
 

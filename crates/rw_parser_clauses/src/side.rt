@@ -1,6 +1,6 @@
 // Right sides and what follows `where` (Haskell 2010 Report, sections 3.13 and 4.4.3).
 ghost use Rattle.std.specs.Prelude.{◌≡◌};
-ghost use Rattle.rw_parser_grammar.specs.ReadClauses as spec;
+ghost use Rattle.rw_parser_reading.specs.ReadClauses as spec;
 ghost use Rattle.rw_base.specs.Answers.{Gives};
 ghost use Rattle.rw_parser_parts.specs.Nests.{Nests};
 ghost use Rattle.rw_parser_parts.specs.Within as within;
@@ -19,7 +19,7 @@ where
     L: Fn(Global, usize, usize, &[Lexeme]) -> Result<(Items<Local<Span>>, &[Lexeme]), Unread>,
 {
     // `|` exp arrow exp, where the arrow is `=` in a clause and `->` in an alternative
-    #[tactic(auto, unfolding(rw_parser_grammar::specs::ReadClauses::guard_at))]
+    #[tactic(auto, unfolding(rw_parser_reading::specs::ReadClauses::guard_at))]
     fn guard<'a>(
         &self,
         arrow: Mark,
@@ -36,7 +36,7 @@ where
     }
 
     // (`|` exp arrow exp)*
-    #[tactic(auto, unfolding(rw_parser_grammar::specs::ReadClauses::guards_at))]
+    #[tactic(auto, unfolding(rw_parser_reading::specs::ReadClauses::guards_at))]
     fn guards<'a>(
         &self,
         arrow: Mark,
@@ -59,7 +59,7 @@ where
     }
 
     // rhs ::= arrow exp | (`|` exp arrow exp)+
-    #[tactic(auto, unfolding(rw_parser_grammar::specs::ReadClauses::right_side_at))]
+    #[tactic(auto, unfolding(rw_parser_reading::specs::ReadClauses::right_side_at))]
     pub fn right_side<'a>(
         &self,
         arrow: Mark,
@@ -81,7 +81,7 @@ where
     }
 
     // [`where` locals]
-    #[tactic(auto, unfolding(rw_parser_grammar::specs::ReadClauses::where_at))]
+    #[tactic(auto, unfolding(rw_parser_reading::specs::ReadClauses::where_at))]
     pub fn wheres<'a>(
         &self,
         tokens: &'a [Lexeme],

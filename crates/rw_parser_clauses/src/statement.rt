@@ -1,7 +1,7 @@
 // Statements (Haskell 2010 Report, section 3.14).
 ghost use Rattle.std.specs.Prelude.{◌≡◌, pred, IfOk};
 ghost use Rattle.rw_parser_grammar.specs.Clauses as grammar;
-ghost use Rattle.rw_parser_grammar.specs.ReadClauses as spec;
+ghost use Rattle.rw_parser_reading.specs.ReadClauses as spec;
 ghost use Rattle.rw_base.specs.Answers.{Gives};
 ghost use Rattle.rw_parser_patterns.specs.Depth.{any_pattern_at};
 ghost use Rattle.rw_parser_parts.specs.Nests.{Nests};
@@ -63,7 +63,7 @@ where
     L: Fn(Global, usize, usize, &[Lexeme]) -> Result<(Items<Local<Span>>, &[Lexeme]), Unread>,
 {
     // pat `<-` exp
-    #[tactic(auto, unfolding(rw_parser_grammar::specs::ReadClauses::bind_at))]
+    #[tactic(auto, unfolding(rw_parser_reading::specs::ReadClauses::bind_at))]
     fn bind<'a>(&self, tokens: &'a [Lexeme]) -> Result<(Stmt<Span>, &'a [Lexeme]), Unread>
         requires { Nests self.now.levels (E.pre self.now.expression) (E.post self.now.expression) (L.pre self.now.locals) (L.post self.now.locals) }
         ensures { Gives (λ x. (x.0, x.1.now)) result (spec.bind_at any_pattern_at (within.expression_within self.now.levels self.now.room) (within.locals_beneath self.now.levels self.now.room) (within.expression_beneath self.now.levels (pred self.now.room)) tokens.now) }
@@ -91,7 +91,7 @@ where
     }
 
     // exp
-    #[tactic(auto, unfolding(rw_parser_grammar::specs::ReadClauses::run_at))]
+    #[tactic(auto, unfolding(rw_parser_reading::specs::ReadClauses::run_at))]
     fn run<'a>(&self, tokens: &'a [Lexeme]) -> Result<(Stmt<Span>, &'a [Lexeme]), Unread>
         requires { Nests self.now.levels (E.pre self.now.expression) (E.post self.now.expression) (L.pre self.now.locals) (L.post self.now.locals) }
         ensures { Gives (λ x. (x.0, x.1.now)) result (spec.run_at any_pattern_at (within.expression_within self.now.levels self.now.room) (within.locals_beneath self.now.levels self.now.room) (within.expression_beneath self.now.levels (pred self.now.room)) tokens.now) }
@@ -116,7 +116,7 @@ where
     }
 
     // The statements of a `do`: `{` stmt (`;` stmt)* `}`, where a stmt may be nothing
-    #[tactic(auto, unfolding(rw_parser_grammar::specs::ReadClauses::statements_at))]
+    #[tactic(auto, unfolding(rw_parser_reading::specs::ReadClauses::statements_at))]
     pub fn statements<'a>(
         &self,
         tokens: &'a [Lexeme],

@@ -4,7 +4,7 @@ use Rattle.std.proofs.lemmas.Grind.{common_steps}
 use Rattle.rw_base.specs.declared.place.Span.{Span}
 use Rattle.rw_tree.specs.declared.expr.Expr.{Expr}
 use Rattle.rw_tree.specs.declared.expr.Expr.TheVariants as expr
-use Rattle.rw_parser_grammar.specs.Read.{◌>>=◌}
+use Rattle.rw_parser_reading.specs.Read.{◌>>=◌}
 use Rattle.rw_parser_grammar.specs.Chains.{Strength}
 use Rattle.rw_parser_chains.specs.Grouping.{Counted, Waiting, settled, closed}
 use Rattle.rw_parser_chains.specs.Resolving.{Made, chained, expression_made}

@@ -1,6 +1,6 @@
 -- The statements of a `do`, one at a time: what was made so far, put before what is made of the rest, is what is made of all.
 use Rattle.std.proofs.Common.{◌≡◌, ◌∙◌, ℕ, suc, max, ◌+◌, ◌<◌, ◌≤◌, List, [], ◌∷◌, ◌++◌, map, drop, length, get_or, Some, None, refl, sym, ap, arith, append_assoc, append-nil}
-use Rattle.rw_parser_grammar.specs.Read.{◌>>=◌}
+use Rattle.rw_parser_reading.specs.Read.{◌>>=◌}
 use Rattle.rw_parser_chains.specs.Resolving.{Made, fits, below_of}
 use Rattle.rw_parser_chains.proofs.Turns.{with_front, no_front}
 use Rattle.rw_parser_fixity.proofs.Chains.{at, beyond, none_dropped}

@@ -11,7 +11,7 @@ use Rattle.rw_tree.specs.declared.clause.Alt.{Alt, out-Alt}
 use Rattle.rw_tree.specs.declared.clause.Rhs.{Rhs}
 use Rattle.rw_tree.specs.declared.clause.Stmt.{Stmt}
 use Rattle.rw_tree.specs.declared.clause.Stmt.TheVariants as s
-use Rattle.rw_parser_grammar.specs.Read.{◌>>=◌}
+use Rattle.rw_parser_reading.specs.Read.{◌>>=◌}
 use Rattle.rw_parser_grammar.specs.Chains.{Strength}
 use Rattle.rw_parser_chains.specs.Grouping.{Counted, Waiting, above, settled}
 use Rattle.rw_parser_chains.specs.Resolving.{Made}

@@ -1,7 +1,7 @@
 -- How many frames each variant of a tree has, as sets of equations.
-use Rattle.rw_parser_grammar.proofs.FramesOf.{frames-type-Var, frames-type-Con, frames-type-Apply, frames-type-Fun, frames-type-Tuple}
-use Rattle.rw_parser_grammar.proofs.FramesOf.{frames-Var, frames-Con, frames-Apply, frames-Tuple, frames-Chain, frames-Lambda, frames-Let, frames-If, frames-Case, frames-Do}
-use Rattle.rw_parser_grammar.proofs.FramesOf.{frames-Plain, frames-Guarded, frames-guard, frames-row, frames-local-Sig, frames-local-Fun, frames-local-Pattern, frames-Bind, frames-statement-Let, frames-Run}
+use Rattle.rw_parser_reading.proofs.FramesOf.{frames-type-Var, frames-type-Con, frames-type-Apply, frames-type-Fun, frames-type-Tuple}
+use Rattle.rw_parser_reading.proofs.FramesOf.{frames-Var, frames-Con, frames-Apply, frames-Tuple, frames-Chain, frames-Lambda, frames-Let, frames-If, frames-Case, frames-Do}
+use Rattle.rw_parser_reading.proofs.FramesOf.{frames-Plain, frames-Guarded, frames-guard, frames-row, frames-local-Sig, frames-local-Fun, frames-local-Pattern, frames-Bind, frames-statement-Let, frames-Run}
 
 pub ruleset type_counts = (frames-type-Var, frames-type-Con, frames-type-Apply, frames-type-Fun, frames-type-Tuple)
 

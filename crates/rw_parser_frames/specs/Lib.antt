@@ -1,1 +1,1 @@
--- No words of its own: contracts cite those of rw_parser_grammar.
+-- No words of its own: contracts cite those of rw_parser_reading.

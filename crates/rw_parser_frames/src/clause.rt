@@ -1,6 +1,6 @@
 // The frames of clauses, right sides and local declarations (Haskell 2010 Report, sections 3.13 and 4.4.3).
 ghost use Rattle.std.specs.Prelude.{◌≡◌, min};
-ghost use Rattle.rw_parser_grammar.specs.Frames.{frames_of_row, frames_of_side, frames_of_guard, frames_of_local, most};
+ghost use Rattle.rw_parser_reading.specs.Frames.{frames_of_row, frames_of_side, frames_of_guard, frames_of_local, most};
 
 use crate::expr::expression_frames;
 use crate::types::type_frames;

@@ -1,7 +1,7 @@
 // The frames of expressions and statements: a lambda, a `let` and an `if` with what follows its arrow, its `in` and its
 // `else` (Haskell 2010 Report, chapter 3).
 ghost use Rattle.std.specs.Prelude.{◌≡◌, min};
-ghost use Rattle.rw_parser_grammar.specs.Frames.{frames_of_expression, frames_of_statement, most};
+ghost use Rattle.rw_parser_reading.specs.Frames.{frames_of_expression, frames_of_statement, most};
 
 use crate::bounded::one_more;
 use crate::clause::{locals_frames, rows_frames};

@@ -1,6 +1,6 @@
 // The frames of types: an arrow and the type behind it (Haskell 2010 Report, section 4.1.2).
 ghost use Rattle.std.specs.Prelude.{◌≡◌, min};
-ghost use Rattle.rw_parser_grammar.specs.Frames.{frames_of_type, most};
+ghost use Rattle.rw_parser_reading.specs.Frames.{frames_of_type, most};
 
 use crate::bounded::one_more;
 use rw_tree::Written;

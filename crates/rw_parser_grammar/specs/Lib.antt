@@ -1,4 +1,4 @@
--- The words that public contracts rest on.
+-- The words that public contracts rest on: what tokens spell.
 pub mod Lexemes
 pub mod Lists
 pub mod Types
@@ -8,20 +8,8 @@ pub mod Expressions
 pub mod Clauses
 pub mod Declarations
 pub mod Grammar
+-- The tree of a chain of operators, and how deep a tree may be.
 pub mod Chains
 pub mod Resolved
 pub mod Levels
 pub mod Resolution
--- What functions inside promise each other, and laws that callers cite.
-pub mod Read
-pub mod ReadTypes
-pub mod ReadNames
-pub mod ReadExpressions
-pub mod ReadClauses
-pub mod ReadLevels
-pub mod ReadDeclarations
-pub mod ReadProgram
-pub mod Joined
--- How deep trees are, as readers bound it.
-pub mod Frames
-pub mod Shallow

@@ -9,10 +9,10 @@ use Rattle.rw_parser_grammar.specs.declared.lexeme.Mark.TheVariants as m
 use Rattle.rw_parser_grammar.specs.declared.lexeme.Spot.{Spot}
 use Rattle.rw_parser_grammar.specs.declared.lexeme.Lexeme.{Lexeme}
 use Rattle.rw_parser_grammar.specs.Lexemes.{span_of}
-use Rattle.rw_parser_grammar.specs.Frames.{frames_of_type, frames_of_constructor, frames_of_declaration, most, kept, cut}
-use Rattle.rw_parser_grammar.specs.Read.{◌>>=◌, Read, sees, after, separated_at, constructor_at}
-use Rattle.rw_parser_grammar.specs.ReadTypes.{atype_at}
-use Rattle.rw_parser_grammar.specs.ReadDeclarations.{class_name_at, data_constructor_at, constructors_at, parameters_at, deriving_at, data_at, newtype_at, signed_name_at, context_at, signature_at}
+use Rattle.rw_parser_reading.specs.Frames.{frames_of_type, frames_of_constructor, frames_of_declaration, most, kept, cut}
+use Rattle.rw_parser_reading.specs.Read.{◌>>=◌, Read, sees, after, separated_at, constructor_at}
+use Rattle.rw_parser_reading.specs.ReadTypes.{atype_at}
+use Rattle.rw_parser_reading.specs.ReadDeclarations.{class_name_at, data_constructor_at, constructors_at, parameters_at, deriving_at, data_at, newtype_at, signed_name_at, context_at, signature_at}
 use Rattle.rw_parser_patterns.specs.Depth.{any_type_at}
 use Rattle.rw_parser_patterns.specs.Given.{counted}
 use Rattle.rw_parser_patterns.proofs.Kept.{kept_alike, kept_empty}

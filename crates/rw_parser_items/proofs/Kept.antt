@@ -3,10 +3,10 @@ use Rattle.std.proofs.Common.{◌≡◌, ℕ, List, Option, Some, None, refl, sy
 use Rattle.rw_tree.specs.declared.types.Written.{Written}
 use Rattle.rw_parser_grammar.specs.declared.lexeme.Spot.{Spot}
 use Rattle.rw_parser_grammar.specs.declared.lexeme.Lexeme.{Lexeme}
-use Rattle.rw_parser_grammar.specs.Frames.{frames_of_type, frames_of_constructor, most, kept, cut}
-use Rattle.rw_parser_grammar.specs.Read.{◌>>=◌, Read, constructor_at}
-use Rattle.rw_parser_grammar.specs.ReadTypes.{atypes_at}
-use Rattle.rw_parser_grammar.specs.ReadDeclarations.{class_name_at, data_constructor_at}
+use Rattle.rw_parser_reading.specs.Frames.{frames_of_type, frames_of_constructor, most, kept, cut}
+use Rattle.rw_parser_reading.specs.Read.{◌>>=◌, Read, constructor_at}
+use Rattle.rw_parser_reading.specs.ReadTypes.{atypes_at}
+use Rattle.rw_parser_reading.specs.ReadDeclarations.{class_name_at, data_constructor_at}
 use Rattle.rw_parser_patterns.specs.Depth.{any_type_at}
 use Rattle.rw_parser_patterns.proofs.Kept.{kept_alike}
 use Rattle.rw_parser_items.specs.Kept.{constructor_of, data_constructor_kept}

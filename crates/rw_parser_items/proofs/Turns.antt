@@ -2,8 +2,8 @@
 use Rattle.std.proofs.Common.{◌≡◌, ℕ, suc, ◌+◌, true, false, List, [], ◌∷◌, ◌++◌, drop, Some, None, refl, sym, ◌∙◌, ap, append-nil, add-one, length, ◌≤◌, get_or, Result, Ok, Err, IfOk, arith}
 use Rattle.rw_parser_grammar.specs.declared.lexeme.Lexeme.{Lexeme}
 use Rattle.rw_parser_grammar.specs.Declarations.{pointed}
-use Rattle.rw_parser_grammar.specs.Read.{◌>>=◌, many_at, begins_variable}
-use Rattle.rw_parser_grammar.specs.ReadDeclarations.{class_name_at, sees_point, module_parts_at, module_name_at, parameters_at}
+use Rattle.rw_parser_reading.specs.Read.{◌>>=◌, many_at, begins_variable}
+use Rattle.rw_parser_reading.specs.ReadDeclarations.{class_name_at, sees_point, module_parts_at, module_name_at, parameters_at}
 use Rattle.rw_parser_patterns.proofs.Turns.{with_front, front_again}
 use Rattle.rw_parser_items.specs.Named.{with_points, parameter_at}
 

@@ -8,10 +8,10 @@ use Rattle.rw_tree.specs.declared.decl.Decl.TheVariants as d
 use Rattle.rw_parser_grammar.specs.declared.lexeme.Mark.TheVariants as m
 use Rattle.rw_parser_grammar.specs.declared.lexeme.Lexeme.{Lexeme}
 use Rattle.rw_parser_grammar.specs.Lexemes.{span_of}
-use Rattle.rw_parser_grammar.specs.Frames.{frames_of_type, frames_of_constructor, most, cut}
-use Rattle.rw_parser_grammar.specs.Read.{◌>>=◌, Read, sees, after, separated_at}
-use Rattle.rw_parser_grammar.specs.ReadTypes.{atype_at, atypes_at}
-use Rattle.rw_parser_grammar.specs.ReadDeclarations.{class_name_at, signed_name_at, data_constructor_at, parameters_at, deriving_at, context_at}
+use Rattle.rw_parser_reading.specs.Frames.{frames_of_type, frames_of_constructor, most, cut}
+use Rattle.rw_parser_reading.specs.Read.{◌>>=◌, Read, sees, after, separated_at}
+use Rattle.rw_parser_reading.specs.ReadTypes.{atype_at, atypes_at}
+use Rattle.rw_parser_reading.specs.ReadDeclarations.{class_name_at, signed_name_at, data_constructor_at, parameters_at, deriving_at, context_at}
 use Rattle.rw_parser_patterns.specs.Given.{counted}
 use Rattle.rw_parser_patterns.specs.Depth.{any_type_at}
 

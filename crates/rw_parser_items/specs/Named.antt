@@ -1,8 +1,8 @@
 -- The names that stand in lists, each by the function that reads one.
 use Rattle.std.specs.Prelude.{ℕ, List, [], ◌∷◌, ◌++◌, Some}
 use Rattle.rw_parser_grammar.specs.declared.lexeme.Lexeme.{Lexeme}
-use Rattle.rw_parser_grammar.specs.Read.{◌>>=◌, Read, variable_at}
-use Rattle.rw_parser_grammar.specs.ReadDeclarations.{class_name_at, entity_name_at, operator_name_at, signed_name_at, monad_at}
+use Rattle.rw_parser_reading.specs.Read.{◌>>=◌, Read, variable_at}
+use Rattle.rw_parser_reading.specs.ReadDeclarations.{class_name_at, entity_name_at, operator_name_at, signed_name_at, monad_at}
 use Rattle.rw_parser_items.specs.declared.list.Named.{Named}
 use Rattle.rw_parser_items.specs.declared.list.Named.TheVariants as k
 

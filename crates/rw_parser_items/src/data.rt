@@ -1,9 +1,9 @@
 // Data types (Haskell 2010 Report, sections 4.2.1, 4.2.3 and 4.3.3). The grammar rule stands above each function.
 ghost use Rattle.std.specs.Prelude.{◌≡◌, ◌<◌, ◌≤◌, length, IfOk};
-ghost use Rattle.rw_parser_grammar.specs.Read.{separated_at};
-ghost use Rattle.rw_parser_grammar.specs.Read as reads;
-ghost use Rattle.rw_parser_grammar.specs.Frames.{frames_of_constructor};
-ghost use Rattle.rw_parser_grammar.specs.ReadDeclarations as spec;
+ghost use Rattle.rw_parser_reading.specs.Read.{separated_at};
+ghost use Rattle.rw_parser_reading.specs.Read as reads;
+ghost use Rattle.rw_parser_reading.specs.Frames.{frames_of_constructor};
+ghost use Rattle.rw_parser_reading.specs.ReadDeclarations as spec;
 ghost use Rattle.rw_parser_grammar.specs.declared.lexeme.Mark.TheVariants as m;
 ghost use Rattle.rw_parser_patterns.specs.Depth.{any_type_at};
 ghost use Rattle.rw_base.specs.Answers.{Gives};
@@ -91,7 +91,7 @@ fn parameter(alloc: Global, tokens: &[Lexeme]) -> Result<(Name, &[Lexeme]), Unre
 }
 
 // var*
-#[tactic(auto, unfolding(rw_parser_grammar::specs::ReadDeclarations::parameters_at))]
+#[tactic(auto, unfolding(rw_parser_reading::specs::ReadDeclarations::parameters_at))]
 fn parameters(alloc: Global, tokens: &[Lexeme]) -> Result<(Items<Name>, &[Lexeme]), Unread>
     ensures { Gives (λ x. (x.0, x.1.now)) result (spec.parameters_at tokens.now) }
 {
@@ -204,7 +204,7 @@ fn only_constructor(
 }
 
 // [deriving], where deriving ::= `deriving` (Con | `(` [Con (`,` Con)*] `)`)
-#[tactic(auto, unfolding(rw_parser_grammar::specs::ReadDeclarations::deriving_at))]
+#[tactic(auto, unfolding(rw_parser_reading::specs::ReadDeclarations::deriving_at))]
 fn derived_classes(alloc: Global, tokens: &[Lexeme]) -> Result<(Items<Name>, &[Lexeme]), Unread>
     ensures { Gives (λ x. (x.0, x.1.now)) result (spec.deriving_at tokens.now) }
 {
@@ -215,7 +215,7 @@ fn derived_classes(alloc: Global, tokens: &[Lexeme]) -> Result<(Items<Name>, &[L
 }
 
 // Con | `(` [Con (`,` Con)*] `)`
-#[tactic(auto, unfolding(rw_parser_grammar::specs::ReadDeclarations::derived_at))]
+#[tactic(auto, unfolding(rw_parser_reading::specs::ReadDeclarations::derived_at))]
 fn derived(alloc: Global, tokens: &[Lexeme]) -> Result<(Items<Name>, &[Lexeme]), Unread>
     ensures { Gives (λ x. (x.0, x.1.now)) result (spec.derived_at tokens.now) }
 {
@@ -229,7 +229,7 @@ fn derived(alloc: Global, tokens: &[Lexeme]) -> Result<(Items<Name>, &[Lexeme]),
 }
 
 // [Con (`,` Con)*] `)`
-#[tactic(auto, unfolding(rw_parser_grammar::specs::ReadDeclarations::classes_at))]
+#[tactic(auto, unfolding(rw_parser_reading::specs::ReadDeclarations::classes_at))]
 fn classes(alloc: Global, tokens: &[Lexeme]) -> Result<(Items<Name>, &[Lexeme]), Unread>
     ensures { Gives (λ x. (x.0, x.1.now)) result (spec.classes_at tokens.now) }
 {

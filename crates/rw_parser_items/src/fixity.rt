@@ -1,7 +1,7 @@
 // Fixity declarations (Haskell 2010 Report, section 4.4.2). The grammar rule stands above each function.
 ghost use Rattle.std.specs.Prelude.{◌≡◌, [], ◌∷◌};
 ghost use Rattle.rw_parser_grammar.specs.Declarations as grammar;
-ghost use Rattle.rw_parser_grammar.specs.ReadDeclarations as spec;
+ghost use Rattle.rw_parser_reading.specs.ReadDeclarations as spec;
 ghost use Rattle.rw_base.specs.Answers.{Gives};
 
 use crate::list::{Named, names};
@@ -18,7 +18,7 @@ pub fn begins_fixity(tokens: &[Lexeme]) -> bool
 }
 
 /// fixity ::= (`infixl` | `infixr` | `infix`) [Number 0 to 9] op (`,` op)*
-#[tactic(auto, unfolding(rw_parser_grammar::specs::ReadDeclarations::fixity_at))]
+#[tactic(auto, unfolding(rw_parser_reading::specs::ReadDeclarations::fixity_at))]
 pub fn fixity_declaration(
     alloc: Global,
     tokens: &[Lexeme],

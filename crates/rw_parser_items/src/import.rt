@@ -1,6 +1,6 @@
 // Imports (Haskell 2010 Report, section 5.3). The grammar rule stands above each function.
 ghost use Rattle.std.specs.Prelude.{◌≡◌, ◌<◌, ◌≤◌, length, codes, IfOk};
-ghost use Rattle.rw_parser_grammar.specs.ReadDeclarations as spec;
+ghost use Rattle.rw_parser_reading.specs.ReadDeclarations as spec;
 ghost use Rattle.rw_base.specs.Answers.{Gives};
 
 use crate::module::{exports, module_name, pointed};
@@ -11,7 +11,7 @@ use rw_tree::Decl;
 use std::alloc::Global;
 
 /// import ::= `import` [`qualified`] modname [`as` modname] [`hiding`] [exports]
-#[tactic(auto, unfolding(rw_parser_grammar::specs::ReadDeclarations::import_at))]
+#[tactic(auto, unfolding(rw_parser_reading::specs::ReadDeclarations::import_at))]
 pub fn import_declaration(
     alloc: Global,
     tokens: &[Lexeme],
@@ -37,7 +37,7 @@ fn sees_word(tokens: &[Lexeme], word: &[u8]) -> bool
 }
 
 // [`qualified`]
-#[tactic(auto, unfolding(rw_parser_grammar::specs::ReadDeclarations::behind_word))]
+#[tactic(auto, unfolding(rw_parser_reading::specs::ReadDeclarations::behind_word))]
 fn behind_qualified(tokens: &[Lexeme]) -> &[Lexeme]
     ensures { result.now ≡ spec.behind_word (codes "qualified") tokens.now }
 {
@@ -49,7 +49,7 @@ fn behind_qualified(tokens: &[Lexeme]) -> &[Lexeme]
 }
 
 // [`hiding`]
-#[tactic(auto, unfolding(rw_parser_grammar::specs::ReadDeclarations::behind_word))]
+#[tactic(auto, unfolding(rw_parser_reading::specs::ReadDeclarations::behind_word))]
 fn behind_hiding(tokens: &[Lexeme]) -> &[Lexeme]
     ensures { result.now ≡ spec.behind_word (codes "hiding") tokens.now }
 {
@@ -61,7 +61,7 @@ fn behind_hiding(tokens: &[Lexeme]) -> &[Lexeme]
 }
 
 // [`as` modname]
-#[tactic(auto, unfolding(rw_parser_grammar::specs::ReadDeclarations::behind_as))]
+#[tactic(auto, unfolding(rw_parser_reading::specs::ReadDeclarations::behind_as))]
 fn behind_as(alloc: Global, tokens: &[Lexeme]) -> Result<&[Lexeme], Unread>
     ensures { Gives (λ r. r.now) result (spec.behind_as tokens.now) }
 {

@@ -2,7 +2,7 @@
 //! tokens that items are (Haskell 2010 Report, chapters 4 and 5, in this project's profile).
 //!
 //! Types and patterns are read by `rw_parser_patterns`, clauses by `rw_parser_parts`. The parser stands on it. Begin with
-//! `item.rt`. The grammar rule stands above each function, and `specs/` of `rw_parser_grammar` has the functions on lists
+//! `item.rt`. The grammar rule stands above each function, and `specs/` of `rw_parser_reading` has the functions on lists
 //! that the readers are held against.
 #![tactic(auto)]
 

@@ -1,8 +1,8 @@
 // Names with commas between them. The grammar rule stands above each function.
 ghost use Rattle.std.specs.Prelude.{◌≡◌, ◌<◌, ◌≤◌, length, IfOk};
-ghost use Rattle.rw_parser_grammar.specs.Read as reads;
-ghost use Rattle.rw_parser_grammar.specs.Read.{separated_at};
-ghost use Rattle.rw_parser_grammar.specs.ReadDeclarations as spec;
+ghost use Rattle.rw_parser_reading.specs.Read as reads;
+ghost use Rattle.rw_parser_reading.specs.Read.{separated_at};
+ghost use Rattle.rw_parser_reading.specs.ReadDeclarations as spec;
 ghost use Rattle.rw_parser_grammar.specs.declared.lexeme.Mark.TheVariants as m;
 ghost use Rattle.rw_base.specs.Answers.{Gives};
 ghost use Rattle.rw_parser_items.specs.Named as named;
@@ -70,7 +70,7 @@ pub fn begins_constructor(tokens: &[Lexeme]) -> bool
 }
 
 // vname | Con
-#[tactic(auto, unfolding(rw_parser_grammar::specs::ReadDeclarations::entity_name_at))]
+#[tactic(auto, unfolding(rw_parser_reading::specs::ReadDeclarations::entity_name_at))]
 fn entity_name(alloc: Global, tokens: &[Lexeme]) -> Result<(Name, &[Lexeme]), Unread>
     ensures read { Gives (λ x. (x.0, x.1.now)) result (spec.entity_name_at tokens.now) }
     ensures shorter { IfOk result (λ x. length x.1.now < length tokens.now) }
@@ -83,7 +83,7 @@ fn entity_name(alloc: Global, tokens: &[Lexeme]) -> Result<(Name, &[Lexeme]), Un
 }
 
 // vname
-#[tactic(auto, unfolding(rw_parser_grammar::specs::ReadDeclarations::signed_name_at))]
+#[tactic(auto, unfolding(rw_parser_reading::specs::ReadDeclarations::signed_name_at))]
 pub fn signed_name(alloc: Global, tokens: &[Lexeme]) -> Result<(Name, &[Lexeme]), Unread>
     ensures read { Gives (λ x. (x.0, x.1.now)) result (spec.signed_name_at tokens.now) }
     ensures shorter { IfOk result (λ x. length x.1.now < length tokens.now) }
@@ -136,7 +136,7 @@ pub fn variable(alloc: Global, tokens: &[Lexeme]) -> Result<((Spot, Name), &[Lex
 }
 
 // `Monad` var
-#[tactic(auto, unfolding(rw_parser_grammar::specs::ReadDeclarations::monad_at))]
+#[tactic(auto, unfolding(rw_parser_reading::specs::ReadDeclarations::monad_at))]
 pub fn monad(alloc: Global, tokens: &[Lexeme]) -> Result<(Name, &[Lexeme]), Unread>
     ensures read { Gives (λ x. (x.0, x.1.now)) result (spec.monad_at tokens.now) }
     ensures shorter { IfOk result (λ x. length x.1.now < length tokens.now) }

@@ -1,10 +1,10 @@
 // The header of a module and its exports (Haskell 2010 Report, sections 5.1 and 5.2). The grammar rule stands above each
 // function.
 ghost use Rattle.std.specs.Prelude.{◌≡◌, ◌<◌, ◌≤◌, ◌++◌, length, drop, IfOk};
-ghost use Rattle.rw_parser_grammar.specs.Read.{separated_at};
+ghost use Rattle.rw_parser_reading.specs.Read.{separated_at};
 ghost use Rattle.rw_parser_grammar.specs.Declarations as grammar;
-ghost use Rattle.rw_parser_grammar.specs.ReadDeclarations as spec;
-ghost use Rattle.rw_parser_grammar.specs.ReadProgram as program;
+ghost use Rattle.rw_parser_reading.specs.ReadDeclarations as spec;
+ghost use Rattle.rw_parser_reading.specs.ReadProgram as program;
 ghost use Rattle.rw_parser_grammar.specs.declared.lexeme.Mark.TheVariants as m;
 ghost use Rattle.rw_base.specs.Answers.{Gives};
 ghost use Rattle.rw_parser_items.specs.Named as named;
@@ -17,7 +17,7 @@ use sqlite_items::Items;
 use std::alloc::Global;
 
 /// [`module` modname [exports] `where`]: the tokens behind it.
-#[tactic(auto, unfolding(rw_parser_grammar::specs::ReadProgram::header_at))]
+#[tactic(auto, unfolding(rw_parser_reading::specs::ReadProgram::header_at))]
 pub fn header(alloc: Global, tokens: &[Lexeme]) -> Result<&[Lexeme], Unread>
     ensures read { Gives (λ r. r.now) result (program.header_at tokens.now) }
     ensures shorter { IfOk result (λ r. length r.now ≤ length tokens.now) }
@@ -40,7 +40,7 @@ fn sees_point(tokens: &[Lexeme]) -> bool
 }
 
 // modname ::= Con (`.` Con)*
-#[tactic(auto, unfolding(rw_parser_grammar::specs::ReadDeclarations::module_name_at))]
+#[tactic(auto, unfolding(rw_parser_reading::specs::ReadDeclarations::module_name_at))]
 pub fn module_name(alloc: Global, tokens: &[Lexeme]) -> Result<(Items<Name>, &[Lexeme]), Unread>
     ensures read { Gives (λ x. (x.0, x.1.now)) result (spec.module_name_at tokens.now) }
     ensures shorter { IfOk result (λ x. length x.1.now < length tokens.now) }
@@ -91,7 +91,7 @@ fn behind_points(alloc: Global, first: &Name, others: &[Name]) -> Result<Name, O
 }
 
 // names `)`, where names ::= (vname | Con) (`,` (vname | Con))*
-#[tactic(auto, unfolding(rw_parser_grammar::specs::ReadDeclarations::entities_at))]
+#[tactic(auto, unfolding(rw_parser_reading::specs::ReadDeclarations::entities_at))]
 fn entities(alloc: Global, tokens: &[Lexeme]) -> Result<(Items<Name>, &[Lexeme]), Unread>
     ensures read { Gives (λ x. (x.0, x.1.now)) result (spec.entities_at tokens.now) }
     ensures shorter { IfOk result (λ x. length x.1.now ≤ length tokens.now) }
@@ -102,7 +102,7 @@ fn entities(alloc: Global, tokens: &[Lexeme]) -> Result<(Items<Name>, &[Lexeme])
 }
 
 // Behind an opening parenthesis: `)` | `..` `)` | names `)`
-#[tactic(auto, unfolding(rw_parser_grammar::specs::ReadDeclarations::inside_parts_at))]
+#[tactic(auto, unfolding(rw_parser_reading::specs::ReadDeclarations::inside_parts_at))]
 fn inside_parts(alloc: Global, tokens: &[Lexeme]) -> Result<(Items<Name>, &[Lexeme]), Unread>
     ensures read { Gives (λ x. (x.0, x.1.now)) result (spec.inside_parts_at tokens.now) }
     ensures shorter { IfOk result (λ x. length x.1.now ≤ length tokens.now) }
@@ -118,7 +118,7 @@ fn inside_parts(alloc: Global, tokens: &[Lexeme]) -> Result<(Items<Name>, &[Lexe
 }
 
 // [`(` `..` `)` | `(` [names] `)`]
-#[tactic(auto, unfolding(rw_parser_grammar::specs::ReadDeclarations::parts_at))]
+#[tactic(auto, unfolding(rw_parser_reading::specs::ReadDeclarations::parts_at))]
 fn parts(alloc: Global, tokens: &[Lexeme]) -> Result<(Items<Name>, &[Lexeme]), Unread>
     ensures read { Gives (λ x. (x.0, x.1.now)) result (spec.parts_at tokens.now) }
     ensures shorter { IfOk result (λ x. length x.1.now ≤ length tokens.now) }
@@ -130,7 +130,7 @@ fn parts(alloc: Global, tokens: &[Lexeme]) -> Result<(Items<Name>, &[Lexeme]), U
 }
 
 // Con parts
-#[tactic(auto, unfolding(rw_parser_grammar::specs::ReadDeclarations::exported_type_at))]
+#[tactic(auto, unfolding(rw_parser_reading::specs::ReadDeclarations::exported_type_at))]
 fn exported_type(alloc: Global, tokens: &[Lexeme]) -> Result<(Name, &[Lexeme]), Unread>
     ensures read { Gives (λ x. (x.0, x.1.now)) result (spec.exported_type_at tokens.now) }
     ensures shorter { IfOk result (λ x. length x.1.now < length tokens.now) }
@@ -141,7 +141,7 @@ fn exported_type(alloc: Global, tokens: &[Lexeme]) -> Result<(Name, &[Lexeme]), 
 }
 
 // modname, behind `module`
-#[tactic(auto, unfolding(rw_parser_grammar::specs::ReadDeclarations::exported_module_at))]
+#[tactic(auto, unfolding(rw_parser_reading::specs::ReadDeclarations::exported_module_at))]
 fn exported_module(alloc: Global, tokens: &[Lexeme]) -> Result<(Name, &[Lexeme]), Unread>
     ensures read { Gives (λ x. (x.0, x.1.now)) result (spec.exported_module_at tokens.now) }
     ensures shorter { IfOk result (λ x. length x.1.now < length tokens.now) }
@@ -151,7 +151,7 @@ fn exported_module(alloc: Global, tokens: &[Lexeme]) -> Result<(Name, &[Lexeme])
 }
 
 // export ::= vname | Con parts | `module` modname
-#[tactic(auto, unfolding(rw_parser_grammar::specs::ReadDeclarations::export_at))]
+#[tactic(auto, unfolding(rw_parser_reading::specs::ReadDeclarations::export_at))]
 fn export(alloc: Global, tokens: &[Lexeme]) -> Result<(Name, &[Lexeme]), Unread>
     ensures read { Gives (λ x. (x.0, x.1.now)) result (spec.export_at tokens.now) }
     ensures shorter { IfOk result (λ x. length x.1.now < length tokens.now) }
@@ -185,7 +185,7 @@ fn some_exports(alloc: Global, tokens: &[Lexeme]) -> Result<(Items<Name>, &[Lexe
 }
 
 // Behind an opening parenthesis: `)` | export (`,` export)* `)`
-#[tactic(auto, unfolding(rw_parser_grammar::specs::ReadDeclarations::inside_exports_at))]
+#[tactic(auto, unfolding(rw_parser_reading::specs::ReadDeclarations::inside_exports_at))]
 fn inside_exports(alloc: Global, tokens: &[Lexeme]) -> Result<(Items<Name>, &[Lexeme]), Unread>
     ensures read { Gives (λ x. (x.0, x.1.now)) result (spec.inside_exports_at tokens.now) }
     ensures shorter { IfOk result (λ x. length x.1.now ≤ length tokens.now) }
@@ -199,7 +199,7 @@ fn inside_exports(alloc: Global, tokens: &[Lexeme]) -> Result<(Items<Name>, &[Le
 }
 
 // [exports], where exports ::= `(` [export (`,` export)*] `)`
-#[tactic(auto, unfolding(rw_parser_grammar::specs::ReadDeclarations::exports_at))]
+#[tactic(auto, unfolding(rw_parser_reading::specs::ReadDeclarations::exports_at))]
 pub fn exports(alloc: Global, tokens: &[Lexeme]) -> Result<(Items<Name>, &[Lexeme]), Unread>
     ensures read { Gives (λ x. (x.0, x.1.now)) result (spec.exports_at tokens.now) }
     ensures shorter { IfOk result (λ x. length x.1.now ≤ length tokens.now) }

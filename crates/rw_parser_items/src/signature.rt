@@ -1,9 +1,9 @@
 // Type signatures and their contexts (Haskell 2010 Report, sections 4.1.3 and 4.4.1). The grammar rule stands above each
 // function.
 ghost use Rattle.std.specs.Prelude.{◌≡◌, ◌<◌, ◌≤◌, length, IfOk};
-ghost use Rattle.rw_parser_grammar.specs.Frames.{frames_of_declaration, cut};
-ghost use Rattle.rw_parser_grammar.specs.ReadDeclarations as spec;
-ghost use Rattle.rw_parser_grammar.specs.ReadNames as marks;
+ghost use Rattle.rw_parser_reading.specs.Frames.{frames_of_declaration, cut};
+ghost use Rattle.rw_parser_reading.specs.ReadDeclarations as spec;
+ghost use Rattle.rw_parser_reading.specs.ReadNames as marks;
 ghost use Rattle.rw_parser_patterns.specs.Depth.{any_type_at};
 ghost use Rattle.rw_base.specs.Answers.{Gives};
 ghost use Rattle.rw_parser_items.specs.Kept as keep;
@@ -78,7 +78,7 @@ fn begins_context(tokens: &[Lexeme]) -> bool
 }
 
 // [context `=>`]
-#[tactic(auto, unfolding(rw_parser_grammar::specs::ReadDeclarations::context_at))]
+#[tactic(auto, unfolding(rw_parser_reading::specs::ReadDeclarations::context_at))]
 fn context(alloc: Global, tokens: &[Lexeme]) -> Result<(Items<Name>, &[Lexeme]), Unread>
     ensures { Gives (λ x. (x.0, x.1.now)) result (spec.context_at tokens.now) }
 {
@@ -89,7 +89,7 @@ fn context(alloc: Global, tokens: &[Lexeme]) -> Result<(Items<Name>, &[Lexeme]),
 }
 
 // context `=>`, where context ::= `Monad` var | `(` `Monad` var (`,` `Monad` var)* `)`
-#[tactic(auto, unfolding(rw_parser_grammar::specs::ReadDeclarations::given_context_at))]
+#[tactic(auto, unfolding(rw_parser_reading::specs::ReadDeclarations::given_context_at))]
 fn given_context(alloc: Global, tokens: &[Lexeme]) -> Result<(Items<Name>, &[Lexeme]), Unread>
     ensures { Gives (λ x. (x.0, x.1.now)) result (spec.given_context_at tokens.now) }
 {
@@ -104,7 +104,7 @@ fn given_context(alloc: Global, tokens: &[Lexeme]) -> Result<(Items<Name>, &[Lex
 }
 
 // `Monad` var (`,` `Monad` var)* `)` `=>`
-#[tactic(auto, unfolding(rw_parser_grammar::specs::ReadDeclarations::monads_at))]
+#[tactic(auto, unfolding(rw_parser_reading::specs::ReadDeclarations::monads_at))]
 fn monads(alloc: Global, tokens: &[Lexeme]) -> Result<(Items<Name>, &[Lexeme]), Unread>
     ensures { Gives (λ x. (x.0, x.1.now)) result (spec.monads_at tokens.now) }
 {

@@ -5,9 +5,9 @@ use Rattle.rw_tree.specs.declared.expr.Expr.{Expr}
 use Rattle.rw_parser_grammar.specs.declared.lexeme.Mark.{Mark}
 use Rattle.rw_parser_grammar.specs.declared.lexeme.Mark.TheVariants as m
 use Rattle.rw_parser_grammar.specs.declared.lexeme.Lexeme.{Lexeme}
-use Rattle.rw_parser_grammar.specs.Read.{◌>>=◌, Read, sees, after, many_at, entries_at, block_at}
-use Rattle.rw_parser_grammar.specs.ReadExpressions.{begins_aexp, aexp_at, aexps_at}
-use Rattle.rw_parser_grammar.specs.ReadClauses.{guard_at, guards_at}
+use Rattle.rw_parser_reading.specs.Read.{◌>>=◌, Read, sees, after, many_at, entries_at, block_at}
+use Rattle.rw_parser_reading.specs.ReadExpressions.{begins_aexp, aexp_at, aexps_at}
+use Rattle.rw_parser_reading.specs.ReadClauses.{guard_at, guards_at}
 use Rattle.rw_parser_patterns.proofs.Turns.{with_front, front_again}
 
 module _ {A : Type 0} (one : List Lexeme → Read A) where

@@ -3,7 +3,7 @@ use Rattle.std.proofs.Common.{◌≡◌, ℕ, suc, pred, ◌+◌, Bool, true, fa
 use Rattle.rw_base.specs.declared.place.Span.{Span}
 use Rattle.rw_tree.specs.declared.expr.Expr.{Expr}
 use Rattle.rw_parser_grammar.specs.declared.lexeme.Lexeme.{Lexeme}
-use Rattle.rw_parser_grammar.specs.Read.{◌>>=◌, Read}
+use Rattle.rw_parser_reading.specs.Read.{◌>>=◌, Read}
 use Rattle.rw_parser_parts.specs.declared.frame.Frame.{Frame}
 use Rattle.rw_parser_parts.specs.declared.frame.Step.{Step}
 use Rattle.rw_parser_parts.specs.declared.frame.Step.TheVariants as step

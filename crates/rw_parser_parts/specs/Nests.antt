@@ -6,7 +6,7 @@ use Rattle.rw_base.specs.declared.place.Span.{Span}
 use Rattle.rw_tree.specs.declared.expr.Expr.{Expr}
 use Rattle.rw_tree.specs.declared.clause.Local.{Local}
 use Rattle.rw_parser_grammar.specs.declared.lexeme.Lexeme.{Lexeme}
-use Rattle.rw_parser_grammar.specs.Read.{Read}
+use Rattle.rw_parser_reading.specs.Read.{Read}
 use Rattle.rw_base.specs.Answers.{Unread}
 use Rattle.rw_base.specs.Answers.{Gives}
 use Rattle.rw_parser_parts.specs.Within.{expression_within, locals_within}

@@ -10,10 +10,10 @@ use Rattle.rw_parser_grammar.specs.declared.lexeme.Mark.TheVariants as m
 use Rattle.rw_parser_grammar.specs.declared.lexeme.Lexeme.{Lexeme}
 use Rattle.rw_parser_grammar.specs.Lexemes.{next_spot, span_at, span_of}
 use Rattle.rw_parser_grammar.specs.Expressions.{chained}
-use Rattle.rw_parser_grammar.specs.Read.{◌>>=◌, Read, sees, after}
-use Rattle.rw_parser_grammar.specs.ReadTypes.{begins_apat, apats_at}
-use Rattle.rw_parser_grammar.specs.ReadNames.{begins_op, op_at}
-use Rattle.rw_parser_grammar.specs.ReadExpressions.{begins_last}
+use Rattle.rw_parser_reading.specs.Read.{◌>>=◌, Read, sees, after}
+use Rattle.rw_parser_reading.specs.ReadTypes.{begins_apat, apats_at}
+use Rattle.rw_parser_reading.specs.ReadNames.{begins_op, op_at}
+use Rattle.rw_parser_reading.specs.ReadExpressions.{begins_last}
 use Rattle.rw_parser_parts.specs.declared.frame.Head.{Head}
 use Rattle.rw_parser_parts.specs.declared.frame.Head.TheVariants as h
 use Rattle.rw_parser_parts.specs.declared.frame.Frame.{Frame}

@@ -16,11 +16,11 @@ use Rattle.rw_parser_grammar.specs.declared.item.Bound.{Bound}
 use Rattle.rw_parser_grammar.specs.declared.lexeme.Mark.TheVariants as m
 use Rattle.rw_parser_grammar.specs.declared.lexeme.Lexeme.{Lexeme}
 use Rattle.rw_parser_grammar.specs.Lexemes.{span_of}
-use Rattle.rw_parser_grammar.specs.Read.{◌>>=◌, Read, sees}
-use Rattle.rw_parser_grammar.specs.Frames.{frames_of_type, cut}
-use Rattle.rw_parser_grammar.specs.ReadTypes.{apats_at}
-use Rattle.rw_parser_grammar.specs.ReadExpressions.{operand_at}
-use Rattle.rw_parser_grammar.specs.ReadClauses.{left_side_at, clause_at, alternative_at, alternatives_at, binding_at, local_at, bind_at, run_at, begins_bind, statements_at, locals_over_at}
+use Rattle.rw_parser_reading.specs.Read.{◌>>=◌, Read, sees}
+use Rattle.rw_parser_reading.specs.Frames.{frames_of_type, cut}
+use Rattle.rw_parser_reading.specs.ReadTypes.{apats_at}
+use Rattle.rw_parser_reading.specs.ReadExpressions.{operand_at}
+use Rattle.rw_parser_reading.specs.ReadClauses.{left_side_at, clause_at, alternative_at, alternatives_at, binding_at, local_at, bind_at, run_at, begins_bind, statements_at, locals_over_at}
 use Rattle.rw_parser_patterns.specs.Depth.{any_type_at, any_pattern_at}
 use Rattle.rw_parser_parts.specs.declared.frame.Frame.{Frame}
 use Rattle.rw_parser_parts.specs.declared.frame.Step.{Step}

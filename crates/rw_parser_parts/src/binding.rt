@@ -1,7 +1,7 @@
 // Patterns that take something apart, as a local declaration binds them (Haskell 2010 Report, section 4.4.3.2).
 ghost use Rattle.std.specs.Prelude.{◌≡◌};
-ghost use Rattle.rw_parser_grammar.specs.ReadTypes.{apats_at};
-ghost use Rattle.rw_parser_grammar.specs.ReadClauses as spec;
+ghost use Rattle.rw_parser_reading.specs.ReadTypes.{apats_at};
+ghost use Rattle.rw_parser_reading.specs.ReadClauses as spec;
 ghost use Rattle.rw_parser_grammar.specs.Patterns as grammar;
 ghost use Rattle.rw_base.specs.Answers.{Gives};
 ghost use Rattle.rw_parser_patterns.specs.Depth.{any_pattern_at};
@@ -36,7 +36,7 @@ fn takes_apart(pat: &Pat<Span>) -> bool
 }
 
 // Behind an opening parenthesis: pat (`,` pat)* `)`, at most 8
-#[tactic(auto, unfolding(rw_parser_grammar::specs::ReadClauses::binding_group_at))]
+#[tactic(auto, unfolding(rw_parser_reading::specs::ReadClauses::binding_group_at))]
 fn binding_group<'a>(
     alloc: Global,
     at: Spot,
@@ -57,7 +57,7 @@ fn binding_group<'a>(
 }
 
 // apat*, behind a constructor with this name at this spot
-#[tactic(auto, unfolding(rw_parser_grammar::specs::ReadClauses::binding_built_at))]
+#[tactic(auto, unfolding(rw_parser_reading::specs::ReadClauses::binding_built_at))]
 fn built<'a>(
     alloc: Global,
     at: Spot,

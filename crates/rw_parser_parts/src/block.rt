@@ -1,7 +1,7 @@
 // Blocks of entries, over the reader of one.
 ghost use Rattle.std.specs.Prelude.{length, List};
 ghost use Rattle.rw_parser_grammar.specs.declared.lexeme.Lexeme.{Lexeme};
-ghost use Rattle.rw_parser_grammar.specs.Read.{Read, entries_at, block_at};
+ghost use Rattle.rw_parser_reading.specs.Read.{Read, entries_at, block_at};
 ghost use Rattle.rw_base.specs.Answers.{Gives};
 ghost use Rattle.rw_parser_parts.specs.Nests.{Reads};
 

@@ -1,5 +1,6 @@
 // Neighbouring clauses of one name as one declaration (Haskell 2010 Report, section 4.4.3.1).
 ghost use Rattle.std.specs.Prelude.{◌≡◌, reverse, IfOk};
+ghost use Rattle.rw_tree.specs.declared.clause.Local.TheVariants as l;
 ghost use Rattle.rw_parser_grammar.specs.Clauses as grammar;
 ghost use Rattle.rw_parser_parts.specs.Joined as joins;
 
@@ -28,8 +29,8 @@ fn reversed<T: Drop>(alloc: Global, mut items: Items<T>) -> Result<Items<T>, Out
     Ok(made)
 }
 
-// The group with one clause more.
-fn longer(group: Group, row: Alt<Span>) -> Result<Group, OutOfMemory>
+/// The group with one clause more, behind the others.
+pub fn longer(group: Group, row: Alt<Span>) -> Result<Group, OutOfMemory>
     ensures { IfOk result (λ made. made ≡ joins.longer group row) }
 {
     let Group {
@@ -51,7 +52,7 @@ fn closed(
     mut all: Items<Local<Span>>,
     going: Option<Group>,
 ) -> Result<Items<Local<Span>>, OutOfMemory>
-    ensures { IfOk result (λ made. made ≡ joins.closed all going) }
+    ensures { IfOk result (λ made. made ≡ joins.closed l.Fun all going) }
 {
     if let Some(group) = going {
         let Group { span, name, rows } = group;
@@ -60,8 +61,8 @@ fn closed(
     Ok(all)
 }
 
-// A group of one clause.
-fn begun(alloc: Global, name: Name, row: Alt<Span>) -> Result<Group, OutOfMemory>
+/// A group of one clause.
+pub fn begun(alloc: Global, name: Name, row: Alt<Span>) -> Result<Group, OutOfMemory>
     ensures { IfOk result (λ made. made ≡ joins.begun name row) }
 {
     let span = row.at;
@@ -78,7 +79,7 @@ fn with_clause(
     name: Name,
     row: Alt<Span>,
 ) -> Result<(Items<Local<Span>>, Option<Group>), OutOfMemory>
-    ensures { IfOk result (λ made. made ≡ joins.with_clause all going name row) }
+    ensures { IfOk result (λ made. made ≡ joins.with_clause l.Fun all going name row) }
 {
     match going {
         Some(group) => {

@@ -1,7 +1,7 @@
 // The left side of a clause (Haskell 2010 Report, section 4.4.3).
 ghost use Rattle.std.specs.Prelude.{◌≡◌, [], ◌∷◌, IfOk};
-ghost use Rattle.rw_parser_grammar.specs.ReadTypes.{apats_at};
-ghost use Rattle.rw_parser_grammar.specs.ReadClauses as spec;
+ghost use Rattle.rw_parser_reading.specs.ReadTypes.{apats_at};
+ghost use Rattle.rw_parser_reading.specs.ReadClauses as spec;
 ghost use Rattle.rw_base.specs.Answers.{Gives};
 ghost use Rattle.rw_parser_patterns.specs.Depth.{any_pattern_at};
 ghost use Rattle.rw_parser_parts.specs.Within as within;
@@ -16,7 +16,7 @@ use sqlite_items::Items;
 use std::alloc::Global;
 
 // vname apat*
-#[tactic(auto, unfolding(rw_parser_grammar::specs::ReadClauses::prefix_at))]
+#[tactic(auto, unfolding(rw_parser_reading::specs::ReadClauses::prefix_at))]
 fn prefix(alloc: Global, tokens: &[Lexeme]) -> Result<((Name, Items<Pat<Span>>), &[Lexeme]), Unread>
     ensures { Gives (λ x. (x.0, x.1.now)) result (spec.prefix_at any_pattern_at (apats_at any_pattern_at) tokens.now) }
 {
@@ -27,7 +27,7 @@ fn prefix(alloc: Global, tokens: &[Lexeme]) -> Result<((Name, Items<Pat<Span>>),
 }
 
 // pat op pat, where op is a variable operator
-#[tactic(auto, unfolding(rw_parser_grammar::specs::ReadClauses::infix_at))]
+#[tactic(auto, unfolding(rw_parser_reading::specs::ReadClauses::infix_at))]
 fn infix(alloc: Global, tokens: &[Lexeme]) -> Result<((Name, Items<Pat<Span>>), &[Lexeme]), Unread>
     ensures { Gives (λ x. (x.0, x.1.now)) result (spec.infix_at any_pattern_at (apats_at any_pattern_at) tokens.now) }
 {
@@ -47,7 +47,7 @@ fn pair(alloc: Global, left: Pat<Span>, right: Pat<Span>) -> Result<Items<Pat<Sp
 }
 
 // lhs ::= vname apat* | pat op pat
-#[tactic(auto, unfolding(rw_parser_grammar::specs::ReadClauses::left_side_at))]
+#[tactic(auto, unfolding(rw_parser_reading::specs::ReadClauses::left_side_at))]
 pub fn left_side(
     alloc: Global,
     tokens: &[Lexeme],

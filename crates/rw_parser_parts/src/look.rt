@@ -1,22 +1,23 @@
-// What tokens begin with, as far as a few tokens tell.
+// What tokens begin with, as far as a few tokens tell: which alternative of a rule a reader has before it.
 ghost use Rattle.std.specs.Prelude.{◌≡◌};
-ghost use Rattle.rw_parser_grammar.specs.Read as reads;
+ghost use Rattle.rw_parser_reading.specs.Read as reads;
 ghost use Rattle.rw_parser_grammar.specs.Lexemes as lexemes;
-ghost use Rattle.rw_parser_grammar.specs.ReadNames as names;
-ghost use Rattle.rw_parser_grammar.specs.ReadExpressions as expressions;
-ghost use Rattle.rw_parser_grammar.specs.ReadClauses as clauses;
+ghost use Rattle.rw_parser_reading.specs.ReadNames as names;
+ghost use Rattle.rw_parser_reading.specs.ReadExpressions as expressions;
+ghost use Rattle.rw_parser_reading.specs.ReadClauses as clauses;
 
 use rw_base::Span;
 use rw_parser_grammar::{Lexeme, Mark};
 use rw_parser_patterns::{next_spot, rest_of, same_mark, sees, span_at};
 
-// The tokens of a list up to `rest`, which follows them.
+/// The tokens of a list up to `rest`, which follows them.
 pub fn span_of(tokens: &[Lexeme], rest: &[Lexeme]) -> Span
     ensures { result ≡ lexemes.span_of tokens.now rest.now }
 {
     span_at(next_spot(tokens), rest)
 }
 
+/// Whether the tokens begin with an operator that is not in backquotes.
 pub fn begins_operator(tokens: &[Lexeme]) -> bool
     ensures { result ≡ reads.begins_operator tokens.now }
 {
@@ -29,12 +30,14 @@ fn begins_variable(tokens: &[Lexeme]) -> bool
     matches!(tokens, [Lexeme::Variable(_, _), ..])
 }
 
+/// Whether the tokens begin with an operator, or with a name in backquotes.
 pub fn begins_op(tokens: &[Lexeme]) -> bool
     ensures { result ≡ names.begins_op tokens.now }
 {
     begins_operator(tokens) || sees(tokens, Mark::Backquote)
 }
 
+/// Whether the tokens begin with a name or an opening parenthesis, as an argument does.
 pub fn begins_aexp(tokens: &[Lexeme]) -> bool
     ensures { result ≡ expressions.begins_aexp tokens.now }
 {
@@ -44,7 +47,7 @@ pub fn begins_aexp(tokens: &[Lexeme]) -> bool
     }
 }
 
-// A lambda, a `let` or an `if`, which is the last of its chain.
+/// Whether the tokens begin with a lambda, a `let` or an `if`, which is the last of its chain.
 pub fn begins_last(tokens: &[Lexeme]) -> bool
     ensures { result ≡ expressions.begins_last tokens.now }
 {
@@ -88,28 +91,28 @@ fn opens_operator(tokens: &[Lexeme]) -> bool
     sees(tokens, Mark::Opens) && begins_operator(rest_of(tokens))
 }
 
-// A pattern before an operator.
+/// Whether a pattern stands before an operator, as on the left of an infix clause.
 pub fn begins_infix(tokens: &[Lexeme]) -> bool
     ensures { result ≡ clauses.begins_infix tokens.now }
 {
     !opens_operator(tokens) && begins_op(beyond(tokens))
 }
 
-// A pattern before `<-`.
+/// Whether a pattern stands before `<-`.
 pub fn begins_bind(tokens: &[Lexeme]) -> bool
     ensures { result ≡ clauses.begins_bind tokens.now }
 {
     sees(beyond(tokens), Mark::FromArrow)
 }
 
-// A signature.
+/// Whether the tokens begin with a signature.
 pub fn begins_signature(tokens: &[Lexeme]) -> bool
     ensures { result ≡ clauses.begins_signature tokens.now }
 {
     begins_variable(tokens) && sees(rest_of(tokens), Mark::Colons)
 }
 
-// A pattern that takes something apart, if the tokens begin no infix clause.
+/// Whether the tokens begin with a pattern that takes something apart, if they begin no infix clause.
 pub fn begins_binding(tokens: &[Lexeme]) -> bool
     ensures { result ≡ clauses.begins_binding tokens.now }
 {

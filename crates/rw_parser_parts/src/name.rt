@@ -1,6 +1,6 @@
 // Names and operators where they are used and where they are bound (Haskell 2010 Report, section 3.2).
-ghost use Rattle.rw_parser_grammar.specs.ReadNames as names;
-ghost use Rattle.rw_parser_grammar.specs.ReadClauses as clauses;
+ghost use Rattle.rw_parser_reading.specs.ReadNames as names;
+ghost use Rattle.rw_parser_reading.specs.ReadClauses as clauses;
 ghost use Rattle.rw_base.specs.Answers.{Gives};
 
 use rw_base::{Name, NotSpelled, Span, Unread};
@@ -26,7 +26,9 @@ fn quoted(alloc: Global, tokens: &[Lexeme]) -> Result<(Expr<Span>, &[Lexeme]), U
     }
 }
 
-// op ::= Operator | `` ` `` (var | Con) `` ` ``
+/// op ::= Operator | `` ` `` (var | Con) `` ` ``
+///
+/// The operator where it is used, and the tokens that follow it.
 pub fn op(alloc: Global, tokens: &[Lexeme]) -> Result<(Expr<Span>, &[Lexeme]), Unread>
     ensures { Gives (λ x. (x.0, x.1.now)) result (names.op_at tokens.now) }
 {
@@ -46,7 +48,7 @@ pub fn op(alloc: Global, tokens: &[Lexeme]) -> Result<(Expr<Span>, &[Lexeme]), U
 }
 
 // var `` ` ``
-#[tactic(auto, unfolding(rw_parser_grammar::specs::ReadClauses::variable_quoted_at))]
+#[tactic(auto, unfolding(rw_parser_reading::specs::ReadClauses::variable_quoted_at))]
 fn variable_quoted(alloc: Global, tokens: &[Lexeme]) -> Result<(Name, &[Lexeme]), Unread>
     ensures { Gives (λ x. (x.0, x.1.now)) result (clauses.variable_quoted_at tokens.now) }
 {

@@ -9,10 +9,10 @@ use Rattle.rw_parser_grammar.specs.declared.lexeme.Spot.{Spot}
 use Rattle.rw_parser_grammar.specs.declared.lexeme.Lexeme.{Lexeme}
 use Rattle.rw_parser_grammar.specs.declared.lexeme.Lexeme.TheVariants as t
 use Rattle.rw_parser_grammar.specs.Types.{few}
-use Rattle.rw_parser_grammar.specs.Read.{Read, same_mark, sees, after, separated_at, many_at}
-use Rattle.rw_parser_grammar.specs.ReadTypes.{begins_atype, some_types_at, type_group_at, atype_at, atypes_at, btype_at, type_over_at, type_at}
-use Rattle.rw_parser_grammar.specs.ReadTypes.{begins_apat, some_patterns_at, pattern_group_at, marked_pattern_at, apat_at, apats_at, built_at, pattern_over_at, pattern_at}
-use Rattle.rw_parser_grammar.proofs.ReadExact.{bind_some, chosen, moved}
+use Rattle.rw_parser_reading.specs.Read.{Read, same_mark, sees, after, separated_at, many_at}
+use Rattle.rw_parser_reading.specs.ReadTypes.{begins_atype, some_types_at, type_group_at, atype_at, atypes_at, btype_at, type_over_at, type_at}
+use Rattle.rw_parser_reading.specs.ReadTypes.{begins_apat, some_patterns_at, pattern_group_at, marked_pattern_at, apat_at, apats_at, built_at, pattern_over_at, pattern_at}
+use Rattle.rw_parser_reading.proofs.ReadExact.{bind_some, chosen, moved}
 use Rattle.rw_parser_patterns.specs.Depth.{any_type_at, any_pattern_at}
 
 -- what is read takes a token at least

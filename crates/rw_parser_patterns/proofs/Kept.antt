@@ -7,15 +7,15 @@ use Rattle.rw_parser_grammar.specs.declared.lexeme.Mark.{Mark}
 use Rattle.rw_parser_grammar.specs.declared.lexeme.Mark.TheVariants as m
 use Rattle.rw_parser_grammar.specs.declared.lexeme.Lexeme.{Lexeme}
 use Rattle.rw_parser_grammar.specs.declared.lexeme.Lexeme.TheVariants as t
-use Rattle.rw_parser_grammar.specs.Frames.{frames_of_type, most, kept, cut}
+use Rattle.rw_parser_reading.specs.Frames.{frames_of_type, most, kept, cut}
 use Rattle.rw_parser_grammar.specs.Types.{few, grouped_type, applied_type}
-use Rattle.rw_parser_grammar.specs.Read.{◌>>=◌, Read, same_mark, sees, after, separated_at, many_at}
-use Rattle.rw_parser_grammar.specs.ReadTypes.{some_types_at, type_group_at, atype_at, atypes_at, btype_at, type_over_at}
-use Rattle.rw_parser_grammar.proofs.FramesOf.{frames-type-Var, frames-type-Con, frames-type-Fun, frames-type-Tuple, frames-grouped-type, frames-applied-type}
+use Rattle.rw_parser_reading.specs.Read.{◌>>=◌, Read, same_mark, sees, after, separated_at, many_at}
+use Rattle.rw_parser_reading.specs.ReadTypes.{some_types_at, type_group_at, atype_at, atypes_at, btype_at, type_over_at}
+use Rattle.rw_parser_reading.proofs.FramesOf.{frames-type-Var, frames-type-Con, frames-type-Fun, frames-type-Tuple, frames-grouped-type, frames-applied-type}
 use Rattle.rw_parser_patterns.specs.Given.{both, behind, arrowed, counted}
 use Rattle.rw_parser_patterns.specs.Kept.{side_behind, regrouped, some_types_kept, type_group_kept, atype_kept, btype_kept}
 use Rattle.rw_parser_patterns.specs.Depth.{any_type_at}
-use Rattle.rw_parser_grammar.proofs.ReadExact.{some_is}
+use Rattle.rw_parser_reading.proofs.ReadExact.{some_is}
 use Rattle.rw_parser_patterns.proofs.Enough.{any_type_over}
 
 pub le_max : (a b n : ℕ) → nat_le (max a b) n ≡ nat_le a n && nat_le b n

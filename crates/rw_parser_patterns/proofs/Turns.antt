@@ -8,8 +8,8 @@ use Rattle.rw_tree.specs.declared.pattern.Pat.{Pat}
 use Rattle.rw_parser_grammar.specs.declared.lexeme.Mark.{Mark}
 use Rattle.rw_parser_grammar.specs.declared.lexeme.Lexeme.{Lexeme}
 use Rattle.rw_base.specs.Answers.{Fails}
-use Rattle.rw_parser_grammar.specs.Read.{◌>>=◌, Read, sees, separated_at, many_at}
-use Rattle.rw_parser_grammar.specs.ReadTypes.{begins_atype, atype_at, atypes_at, begins_apat, apat_at, apats_at}
+use Rattle.rw_parser_reading.specs.Read.{◌>>=◌, Read, sees, separated_at, many_at}
+use Rattle.rw_parser_reading.specs.ReadTypes.{begins_atype, atype_at, atypes_at, begins_apat, apat_at, apats_at}
 
 -- what is read from here on, behind what was read before
 abbrev pub with_front : {A : Type 0} → List A → Read (List A) → Read (List A)

@@ -4,8 +4,8 @@ use Rattle.rw_base.specs.declared.place.Span.{Span}
 use Rattle.rw_tree.specs.declared.types.Written.{Written}
 use Rattle.rw_tree.specs.declared.pattern.Pat.{Pat}
 use Rattle.rw_parser_grammar.specs.declared.lexeme.Lexeme.{Lexeme}
-use Rattle.rw_parser_grammar.specs.Read.{Read}
-use Rattle.rw_parser_grammar.specs.ReadTypes.{type_at, pattern_at}
+use Rattle.rw_parser_reading.specs.Read.{Read}
+use Rattle.rw_parser_reading.specs.ReadTypes.{type_at, pattern_at}
 
 -- a type, whatever stands inside what
 unfoldable pub any_type_at : List Lexeme → Read Written

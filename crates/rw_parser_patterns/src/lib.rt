@@ -1,8 +1,8 @@
 //! Readers of types and patterns: the tree that tokens begin with (Haskell 2010 Report, section 10.5, in this project's
 //! profile), and the tokens of a source as the grammar sees them, numbered.
 //!
-//! It meets the definitions of `rw_parser_grammar`, and leaves what names and types mean to the crates above. Begin with
-//! `types.rt`; `token.rt` has what all readers use. The grammar rule stands above each function.
+//! It meets the functions on lists of `rw_parser_reading`, and leaves what names and types mean to the crates above. Begin
+//! with `types.rt`; `token.rt` has what all readers use. The grammar rule stands above each function.
 #![tactic(auto)]
 
 mod name;

@@ -1,8 +1,8 @@
 // Names: variables, operators in parentheses, and constructors (Haskell 2010 Report, sections 3.2 and 10.5). The grammar
 // rule stands above each function.
 ghost use Rattle.std.specs.Prelude.{◌≡◌, ◌<◌, ◌≤◌, length, IfOk};
-ghost use Rattle.rw_parser_grammar.specs.ReadClauses as spec;
-ghost use Rattle.rw_parser_grammar.specs.ReadDeclarations as declarations;
+ghost use Rattle.rw_parser_reading.specs.ReadClauses as spec;
+ghost use Rattle.rw_parser_reading.specs.ReadDeclarations as declarations;
 ghost use Rattle.rw_base.specs.Answers.{Gives};
 
 use crate::token::{after, same_mark};
@@ -29,7 +29,7 @@ pub fn variable_name(alloc: Global, tokens: &[Lexeme]) -> Result<((Spot, Name), 
 }
 
 // Operator `)`
-#[tactic(auto, unfolding(rw_parser_grammar::specs::ReadClauses::operator_closed_at))]
+#[tactic(auto, unfolding(rw_parser_reading::specs::ReadClauses::operator_closed_at))]
 fn operator_closed(alloc: Global, tokens: &[Lexeme]) -> Result<((Spot, Name), &[Lexeme]), Unread>
     ensures read { Gives (λ x. (x.0, x.1.now)) result (spec.operator_closed_at tokens.now) }
     ensures shorter { IfOk result (λ x. length x.1.now ≤ length tokens.now) }
@@ -44,7 +44,7 @@ fn operator_closed(alloc: Global, tokens: &[Lexeme]) -> Result<((Spot, Name), &[
 }
 
 /// Con
-#[tactic(auto, unfolding(rw_parser_grammar::specs::ReadDeclarations::class_name_at))]
+#[tactic(auto, unfolding(rw_parser_reading::specs::ReadDeclarations::class_name_at))]
 pub fn constructor_name(alloc: Global, tokens: &[Lexeme]) -> Result<(Name, &[Lexeme]), Unread>
     ensures read { Gives (λ x. (x.0, x.1.now)) result (declarations.class_name_at tokens.now) }
     ensures shorter { IfOk result (λ x. length x.1.now < length tokens.now) }

@@ -1,8 +1,8 @@
 // Patterns, by descent with one token of lookahead (Haskell 2010 Report, section 3.17). The grammar rule stands above
 // each function.
 ghost use Rattle.std.specs.Prelude.{◌≡◌, ◌<◌, ◌≤◌, suc, length, ℕ, IfOk};
-ghost use Rattle.rw_parser_grammar.specs.Read.{separated_at};
-ghost use Rattle.rw_parser_grammar.specs.ReadTypes as spec;
+ghost use Rattle.rw_parser_reading.specs.Read.{separated_at};
+ghost use Rattle.rw_parser_reading.specs.ReadTypes as spec;
 ghost use Rattle.rw_parser_grammar.specs.Patterns as grammar;
 ghost use Rattle.rw_parser_grammar.specs.declared.lexeme.Mark.TheVariants as m;
 ghost use Rattle.rw_base.specs.Answers.{Gives};
@@ -70,7 +70,7 @@ fn read_pat(alloc: Global, tokens: &[Lexeme]) -> Result<(Pat<Span>, &[Lexeme]), 
 
 // apat*, behind a constructor with this name at this spot
 #[cycle(patterns)]
-#[tactic(auto, unfolding(rw_parser_grammar::specs::ReadTypes::built_at))]
+#[tactic(auto, unfolding(rw_parser_reading::specs::ReadTypes::built_at))]
 fn built<'a>(
     alloc: Global,
     at: Spot,
@@ -98,7 +98,7 @@ pub fn begins_apat(tokens: &[Lexeme]) -> bool
 
 // apat*
 #[cycle(patterns)]
-#[tactic(auto, unfolding(rw_parser_grammar::specs::ReadTypes::apats_at))]
+#[tactic(auto, unfolding(rw_parser_reading::specs::ReadTypes::apats_at))]
 fn read_apats(alloc: Global, tokens: &[Lexeme]) -> Result<(Items<Pat<Span>>, &[Lexeme]), Unread>
     ensures read { Gives (λ x. (x.0, x.1.now)) result (spec.apats_at any_pattern_at tokens.now) }
     ensures shorter { IfOk result (λ x. length x.1.now ≤ length tokens.now) }
@@ -137,7 +137,7 @@ fn read_apat(alloc: Global, tokens: &[Lexeme]) -> Result<(Pat<Span>, &[Lexeme]),
 
 // `_` | `(` `)` | `(` pat (`,` pat)* `)`, behind its first token
 #[cycle(patterns)]
-#[tactic(auto, unfolding(rw_parser_grammar::specs::ReadTypes::marked_pattern_at))]
+#[tactic(auto, unfolding(rw_parser_reading::specs::ReadTypes::marked_pattern_at))]
 fn marked_pattern(
     alloc: Global,
     at: Spot,
@@ -158,7 +158,7 @@ fn marked_pattern(
 
 // Behind an opening parenthesis: `)` | pat (`,` pat)* `)`
 #[cycle(patterns)]
-#[tactic(auto, unfolding(rw_parser_grammar::specs::ReadTypes::pattern_group_at))]
+#[tactic(auto, unfolding(rw_parser_reading::specs::ReadTypes::pattern_group_at))]
 fn pattern_group(
     alloc: Global,
     at: Spot,
@@ -176,7 +176,7 @@ fn pattern_group(
 
 // pat (`,` pat)* `)`, at most 8
 #[cycle(patterns)]
-#[tactic(auto, unfolding(rw_parser_grammar::specs::ReadTypes::some_patterns_at))]
+#[tactic(auto, unfolding(rw_parser_reading::specs::ReadTypes::some_patterns_at))]
 fn some_patterns(
     alloc: Global,
     at: Spot,

@@ -1,13 +1,13 @@
 // Tokens one by one, from the front of a list, and spans.
 ghost use Rattle.std.specs.Prelude.{◌≡◌, ◌≤◌, length, drop, nat_le, IfOk};
-ghost use Rattle.rw_parser_grammar.specs.Read as reads;
+ghost use Rattle.rw_parser_reading.specs.Read as reads;
 ghost use Rattle.rw_parser_grammar.specs.Lexemes as lexemes;
 ghost use Rattle.rw_base.specs.Answers.{Gives};
 
 use rw_base::{NotSpelled, Place, Span, Unread};
 use rw_parser_grammar::{Lexeme, Mark, Spot};
 
-#[tactic(auto, unfolding(rw_parser_grammar::specs::Read::same_mark))]
+#[tactic(auto, unfolding(rw_parser_reading::specs::Read::same_mark))]
 pub fn same_mark(a: Mark, b: Mark) -> bool
     ensures { result ≡ reads.same_mark a b }
 {
@@ -36,7 +36,7 @@ pub fn rest_of(tokens: &[Lexeme]) -> &[Lexeme]
 }
 
 // The tokens after a mark.
-#[tactic(auto, unfolding(rw_parser_grammar::specs::Read::after))]
+#[tactic(auto, unfolding(rw_parser_reading::specs::Read::after))]
 pub fn after(tokens: &[Lexeme], wanted: Mark) -> Result<&[Lexeme], Unread>
     ensures read { Gives (λ r. r.now) result (reads.after wanted tokens.now) }
     ensures shorter { IfOk result (λ r. length r.now ≤ length tokens.now) }

@@ -2,10 +2,10 @@
 // each function. Arrows group to the right, so a loop reads them and no call goes down for them. A tree is kept where
 // it has no more arrows inside one another than there is room for.
 ghost use Rattle.std.specs.Prelude.{◌≡◌, ◌<◌, ◌≤◌, suc, pred, length, ℕ, IfOk};
-ghost use Rattle.rw_parser_grammar.specs.Read.{separated_at};
-ghost use Rattle.rw_parser_grammar.specs.ReadTypes as spec;
+ghost use Rattle.rw_parser_reading.specs.Read.{separated_at};
+ghost use Rattle.rw_parser_reading.specs.ReadTypes as spec;
 ghost use Rattle.rw_parser_grammar.specs.Types as grammar;
-ghost use Rattle.rw_parser_grammar.specs.Frames.{frames_of_type, most, cut};
+ghost use Rattle.rw_parser_reading.specs.Frames.{frames_of_type, most, cut};
 ghost use Rattle.rw_parser_grammar.specs.declared.lexeme.Mark.TheVariants as m;
 ghost use Rattle.rw_parser_patterns.specs.Given as given;
 ghost use Rattle.rw_base.specs.Answers.{Gives};
@@ -181,7 +181,7 @@ pub fn begins_atype(tokens: &[Lexeme]) -> bool
 
 // atype*
 #[cycle(types)]
-#[tactic(auto, unfolding(rw_parser_grammar::specs::ReadTypes::atypes_at))]
+#[tactic(auto, unfolding(rw_parser_reading::specs::ReadTypes::atypes_at))]
 fn read_atypes(
     alloc: Global,
     room: usize,

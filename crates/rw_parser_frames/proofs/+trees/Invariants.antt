@@ -1,6 +1,6 @@
 -- The most so far and the most of those to come make the most of all.
 use Rattle.std.proofs.Common.{◌≡◌, min, max, drop}
-use Rattle.rw_parser_grammar.specs.Frames.{most, frames_of_expression, frames_of_statement, frames_of_guard, frames_of_row, frames_of_local}
+use Rattle.rw_parser_reading.specs.Frames.{most, frames_of_expression, frames_of_statement, frames_of_guard, frames_of_row, frames_of_local}
 use Rattle.rw_parser_frames.proofs.+trees.Given as goal
 
 abbrev pub invariant-clause::guards_frames-loop-guard : goal.invariant-clause::guards_frames-loop-guard

@@ -1,10 +1,10 @@
 -- A signature, or a clause.
 use Rattle.std.proofs.Common.{◌≡◌, ◌∙◌, true, false, sym, ap, Some}
 use Rattle.std.proofs.lemmas.Result.{err_from_is_err_and}
-use Rattle.rw_parser_grammar.specs.Frames.{cut}
+use Rattle.rw_parser_reading.specs.Frames.{cut}
 use Rattle.rw_parser_grammar.specs.Levels.{max_levels}
-use Rattle.rw_parser_grammar.specs.ReadDeclarations.{begins_signed}
-use Rattle.rw_parser_grammar.specs.ReadLevels.{clause_over, expression_at, locals_at}
+use Rattle.rw_parser_reading.specs.ReadDeclarations.{begins_signed}
+use Rattle.rw_parser_reading.specs.ReadLevels.{clause_over, expression_at, locals_at}
 use Rattle.rw_base.proofs.Answers.{fails_on}
 use Rattle.rw_parser_items.specs.Kept.{signature_kept}
 use Rattle.rw_parser.specs.Clauses.{frames_of_clause}

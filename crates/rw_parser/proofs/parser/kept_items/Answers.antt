@@ -1,6 +1,6 @@
 -- The items of a program in their frame.
 use Rattle.std.proofs.Common.{◌≡◌, ◌∙◌, ◌≤◌, length, is_some, true, false, None, sym, arith}
-use Rattle.rw_parser_grammar.specs.ReadProgram.{runs_at}
+use Rattle.rw_parser_reading.specs.ReadProgram.{runs_at}
 use Rattle.rw_parser.specs.Frame.{frame_tokens}
 use Rattle.rw_parser.proofs.Framed.{no_frame, no_runs, some_of, with_frame, without_frame}
 use Rattle.rw_parser.proofs.parser.kept_items.Goals as goal

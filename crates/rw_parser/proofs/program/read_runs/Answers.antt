@@ -1,7 +1,7 @@
 -- Run after run.
 use Rattle.std.proofs.Common.{◌∙◌, ◌+◌, ◌<◌, length, take, drop, None, sym, ap, subst, arith, inr}
 use Rattle.std.proofs.lemmas.Result.{err_from_is_err_and}
-use Rattle.rw_parser_grammar.specs.ReadProgram.{items_at}
+use Rattle.rw_parser_reading.specs.ReadProgram.{items_at}
 use Rattle.rw_parser.specs.Shallow.{kept_behind, nothing}
 use Rattle.rw_parser.proofs.Turns.{Left, left_next, left_none, left_refused, rest_shorter}
 use Rattle.rw_parser.proofs.program.read_runs.Goals as goal

@@ -1,7 +1,7 @@
 -- What is kept so far, before what is kept of the runs that are left, is what is kept of all.
 use Rattle.std.proofs.Common.{◌≡◌, ◌≤◌, ℕ, List, Some, length}
 use Rattle.rw_parser_grammar.specs.declared.lexeme.Lexeme.{Lexeme}
-use Rattle.rw_parser_grammar.specs.ReadProgram.{runs_at, items_at}
+use Rattle.rw_parser_reading.specs.ReadProgram.{runs_at, items_at}
 use Rattle.rw_parser.specs.Shallow.{kept_behind, nothing}
 use Rattle.rw_parser.specs.Clauses.{ReadsClauses}
 use Rattle.rw_parser.proofs.Turns.{Left}

@@ -1,7 +1,7 @@
 -- The item of a run goes on to the token that ends it.
 use Rattle.std.proofs.Common.{◌≡◌, ◌∙◌, true, false, sym}
 use Rattle.std.proofs.lemmas.Result.{err_from_is_err_and}
-use Rattle.rw_parser_grammar.specs.ReadProgram.{is_last}
+use Rattle.rw_parser_reading.specs.ReadProgram.{is_last}
 use Rattle.rw_base.proofs.Answers.{fails_on}
 use Rattle.rw_parser.specs.Kept.{item_kept}
 use Rattle.rw_parser.specs.Reading.{run_kept}

@@ -1,8 +1,8 @@
 -- Run after run.
 use Rattle.std.proofs.Common.{◌≡◌, ◌∙◌, ◌+◌, ◌-◌, ◌∷◌, [], true, false, sym, ap, arith, rules, length, drop, take, is_some}
 use Rattle.rw_parser_grammar.specs.declared.lexeme.Mark.TheVariants as m
-use Rattle.rw_parser_grammar.specs.Read.{sees}
-use Rattle.rw_parser_grammar.specs.ReadProgram.{is_none, runs_at}
+use Rattle.rw_parser_reading.specs.Read.{sees}
+use Rattle.rw_parser_reading.specs.ReadProgram.{is_none, runs_at}
 use Rattle.rw_parser.proofs.Runs.{are_none, are_unended, are_more, are_last}
 use Rattle.rw_parser.proofs.run.are_runs.Goals as goal
 

@@ -1,6 +1,6 @@
 -- The tokens from here on are runs where all are.
 use Rattle.std.proofs.Common.{◌≡◌, ◌-◌, length, is_some}
-use Rattle.rw_parser_grammar.specs.ReadProgram.{runs_at}
+use Rattle.rw_parser_reading.specs.ReadProgram.{runs_at}
 use Rattle.rw_parser.proofs.run.are_runs.Given as goal
 
 abbrev pub invariant-loop-turn : goal.invariant-loop-turn

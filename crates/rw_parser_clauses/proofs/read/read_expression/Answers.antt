@@ -1,7 +1,7 @@
 -- An expression is kept where there is room for its frames.
 use Rattle.std.proofs.Common.{length, arith}
 use Rattle.std.proofs.lemmas.Result.{err_from_is_err_and}
-use Rattle.rw_parser_grammar.specs.Frames.{frames_of_expression}
+use Rattle.rw_parser_reading.specs.Frames.{frames_of_expression}
 use Rattle.rw_parser_parts.specs.Within.{expression_within}
 use Rattle.rw_base.proofs.Answers.{fails_on}
 use Rattle.rw_parser_clauses.proofs.Readers.{Found, expression_kept, expression_none, expression_shorter}

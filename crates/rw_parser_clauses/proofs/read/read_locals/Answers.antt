@@ -1,7 +1,7 @@
 -- A block is kept where there is room for its frames.
 use Rattle.std.proofs.Common.{◌∙◌, ap, min, length, arith}
 use Rattle.std.proofs.lemmas.Result.{err_from_is_err_and}
-use Rattle.rw_parser_grammar.specs.Frames.{most, frames_of_local}
+use Rattle.rw_parser_reading.specs.Frames.{most, frames_of_local}
 use Rattle.rw_parser_parts.specs.Within.{locals_within}
 use Rattle.rw_base.proofs.Answers.{fails_on}
 use Rattle.rw_parser_clauses.proofs.Readers.{Found, locals_kept, locals_none, locals_shorter}

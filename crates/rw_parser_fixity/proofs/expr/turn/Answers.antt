@@ -1,7 +1,7 @@
 -- What waits after an operand and the operator behind it.
 use Rattle.std.proofs.Common.{◌≡◌, ◌∙◌, ◌∷◌, ap, sym, reverse, Some}
 use Rattle.std.proofs.lemmas.Result.{err_from_is_err_and}
-use Rattle.rw_parser_grammar.specs.Read.{◌>>=◌}
+use Rattle.rw_parser_reading.specs.Read.{◌>>=◌}
 use Rattle.rw_parser_chains.specs.Fixities.{strength_at}
 use Rattle.rw_parser_chains.specs.Grouping.{settled}
 use Rattle.rw_base.proofs.Answers.{fails_on}

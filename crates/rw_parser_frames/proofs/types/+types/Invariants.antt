@@ -1,6 +1,6 @@
 -- The most so far and the most of those to come make the most of all.
 use Rattle.std.proofs.Common.{◌≡◌, min, max, drop}
-use Rattle.rw_parser_grammar.specs.Frames.{most, frames_of_type}
+use Rattle.rw_parser_reading.specs.Frames.{most, frames_of_type}
 use Rattle.rw_parser_frames.proofs.types.+types.Given as goal
 
 abbrev pub invariant-types_frames-loop-written : goal.invariant-types_frames-loop-written

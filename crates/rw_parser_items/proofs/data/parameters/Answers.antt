@@ -1,6 +1,6 @@
 use Rattle.std.proofs.Common.{rules, ◌≡◌, length, ◌+◌, ◌-◌, true, false, ap, sym, ◌∙◌, arith, ◌⊎◌, inl, inr}
 use Rattle.std.proofs.lemmas.Result.{err_from_is_err_and}
-use Rattle.rw_parser_grammar.specs.Read.{many_at, begins_variable}
+use Rattle.rw_parser_reading.specs.Read.{many_at, begins_variable}
 use Rattle.rw_base.proofs.Answers.{fails_on}
 use Rattle.rw_parser_patterns.proofs.Turns.{with_front, many_step, many_fail, many_done}
 use Rattle.rw_parser_items.proofs.Turns.{parameter_turns}

@@ -1,5 +1,5 @@
 use Rattle.std.proofs.Common.{◌≡◌, length, ◌-◌}
-use Rattle.rw_parser_grammar.specs.Read.{many_at, begins_variable}
+use Rattle.rw_parser_reading.specs.Read.{many_at, begins_variable}
 use Rattle.rw_parser_patterns.proofs.Turns.{with_front}
 use Rattle.rw_parser_items.specs.Named.{parameter_at}
 use Rattle.rw_parser_items.proofs.data.parameters.Given as goal

@@ -1,8 +1,8 @@
 use Rattle.std.proofs.Common.{◌≡◌, length, ◌-◌}
-use Rattle.rw_parser_grammar.specs.Read.{separated_at}
+use Rattle.rw_parser_reading.specs.Read.{separated_at}
 use Rattle.rw_parser_grammar.specs.declared.lexeme.Mark.TheVariants as m
-use Rattle.rw_parser_grammar.specs.Frames.{frames_of_constructor}
-use Rattle.rw_parser_grammar.specs.ReadDeclarations.{data_constructor_at}
+use Rattle.rw_parser_reading.specs.Frames.{frames_of_constructor}
+use Rattle.rw_parser_reading.specs.ReadDeclarations.{data_constructor_at}
 use Rattle.rw_parser_patterns.specs.Given.{counted}
 use Rattle.rw_parser_patterns.specs.Depth.{any_type_at}
 use Rattle.rw_parser_patterns.proofs.Kept.{with_counted}

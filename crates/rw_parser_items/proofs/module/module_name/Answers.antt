@@ -1,6 +1,6 @@
 use Rattle.std.proofs.Common.{rules, ◌≡◌, length, ◌+◌, ◌-◌, true, false, drop, ap, sym, ◌∙◌, arith, Some}
 use Rattle.std.proofs.lemmas.Result.{err_from_is_err_and}
-use Rattle.rw_parser_grammar.specs.ReadDeclarations.{class_name_at, sees_point, module_parts_at}
+use Rattle.rw_parser_reading.specs.ReadDeclarations.{class_name_at, sees_point, module_parts_at}
 use Rattle.rw_base.proofs.Answers.{fails_on}
 use Rattle.rw_parser_patterns.proofs.Turns.{with_front}
 use Rattle.rw_parser_items.proofs.Turns.{parts_last, parts_step, parts_fail, parts_none, name_turns}

@@ -1,5 +1,5 @@
 use Rattle.std.proofs.Common.{◌≡◌, length, ◌-◌, ◌≤◌}
-use Rattle.rw_parser_grammar.specs.ReadDeclarations.{module_parts_at}
+use Rattle.rw_parser_reading.specs.ReadDeclarations.{module_parts_at}
 use Rattle.rw_parser_patterns.proofs.Turns.{with_front}
 use Rattle.rw_parser_items.proofs.module.module_name.Given as goal
 

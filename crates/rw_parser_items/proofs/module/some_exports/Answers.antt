@@ -1,10 +1,10 @@
 use Rattle.std.proofs.Common.{rules, ◌≡◌, length, ◌+◌, ◌-◌, true, false, drop, ap, sym, ◌∙◌, arith, Some}
 use Rattle.std.proofs.lemmas.Result.{err_from_is_err_and}
-use Rattle.rw_parser_grammar.specs.Read.{sees, separated_at}
+use Rattle.rw_parser_reading.specs.Read.{sees, separated_at}
 use Rattle.rw_parser_grammar.specs.declared.lexeme.Mark.TheVariants as m
 use Rattle.rw_base.proofs.Answers.{fails_on}
 use Rattle.rw_parser_patterns.proofs.Turns.{with_front, separated_last, separated_step, separated_fail, separated_none}
-use Rattle.rw_parser_grammar.specs.ReadDeclarations.{export_at}
+use Rattle.rw_parser_reading.specs.ReadDeclarations.{export_at}
 use Rattle.rw_parser_items.proofs.module.some_exports.Goals as goal
 
 pub returns-in_err-one-clause-read : goal.returns-in_err-one-clause-read

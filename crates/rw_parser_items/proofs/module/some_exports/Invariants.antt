@@ -1,8 +1,8 @@
 use Rattle.std.proofs.Common.{◌≡◌, length, ◌-◌, ◌≤◌}
-use Rattle.rw_parser_grammar.specs.Read.{separated_at}
+use Rattle.rw_parser_reading.specs.Read.{separated_at}
 use Rattle.rw_parser_grammar.specs.declared.lexeme.Mark.TheVariants as m
 use Rattle.rw_parser_patterns.proofs.Turns.{with_front}
-use Rattle.rw_parser_grammar.specs.ReadDeclarations.{export_at}
+use Rattle.rw_parser_reading.specs.ReadDeclarations.{export_at}
 use Rattle.rw_parser_items.proofs.module.some_exports.Given as goal
 
 -- what was read so far, put before what is read from here on, is what is read in all

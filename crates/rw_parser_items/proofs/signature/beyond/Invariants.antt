@@ -1,5 +1,5 @@
 use Rattle.std.proofs.Common.{◌≡◌, ◌+◌, ◌≤◌, length}
-use Rattle.rw_parser_grammar.specs.ReadNames.{beyond}
+use Rattle.rw_parser_reading.specs.ReadNames.{beyond}
 use Rattle.rw_parser_items.proofs.signature.beyond.Given as goal
 
 -- what was passed says nothing of what is beyond

@@ -1,6 +1,6 @@
 use Rattle.std.proofs.Common.{rules, ◌≡◌, length, ◌+◌, ◌-◌, true, false, drop, ap, sym, ◌∙◌, arith, Some}
 use Rattle.std.proofs.lemmas.Result.{err_from_is_err_and}
-use Rattle.rw_parser_grammar.specs.Read.{sees, after}
+use Rattle.rw_parser_reading.specs.Read.{sees, after}
 use Rattle.rw_parser_grammar.specs.declared.lexeme.Mark.TheVariants as m
 use Rattle.rw_base.proofs.Answers.{fails_on}
 use Rattle.rw_parser_parts.proofs.Blocks.{entries_none, entries_end, entries_skip, entries_fail, entries_last, entries_stuck, entries_step}

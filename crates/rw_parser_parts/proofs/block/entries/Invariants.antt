@@ -1,6 +1,6 @@
 use Rattle.std.proofs.Common.{◌≡◌, List, length, ◌-◌}
 use Rattle.rw_parser_grammar.specs.declared.lexeme.Lexeme.{Lexeme}
-use Rattle.rw_parser_grammar.specs.Read.{Read, entries_at}
+use Rattle.rw_parser_reading.specs.Read.{Read, entries_at}
 use Rattle.rw_parser_patterns.proofs.Turns.{with_front}
 use Rattle.rw_parser_parts.specs.Nests.{Reads}
 use Rattle.rw_parser_parts.proofs.block.entries.Given as goal

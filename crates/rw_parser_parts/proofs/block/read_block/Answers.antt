@@ -1,5 +1,5 @@
 use Rattle.std.proofs.lemmas.Result.{err_from_is_err_and}
-use Rattle.rw_parser_grammar.specs.Read.{after}
+use Rattle.rw_parser_reading.specs.Read.{after}
 use Rattle.rw_parser_grammar.specs.declared.lexeme.Mark.TheVariants as m
 use Rattle.rw_base.proofs.Answers.{fails_on}
 use Rattle.rw_parser_parts.proofs.Blocks.{block_open, block_none}

@@ -1,5 +1,6 @@
+-- What the loop over tokens that patterns are made of keeps.
 use Rattle.std.proofs.Common.{◌≡◌, length}
-use Rattle.rw_parser_grammar.specs.ReadNames.{beyond}
+use Rattle.rw_parser_reading.specs.ReadNames.{beyond}
 use Rattle.rw_parser_parts.proofs.look.beyond.Given as goal
 
 abbrev pub invariant-loop-rest : goal.invariant-loop-rest

@@ -1,8 +1,8 @@
 use Rattle.std.proofs.Common.{rules, ◌≡◌, length, ◌+◌, ◌-◌, true, false, drop, ap, sym, ◌∙◌, arith, Some, ◌⊎◌, inl, inr}
 use Rattle.std.proofs.lemmas.Result.{err_from_is_err_and}
-use Rattle.rw_parser_grammar.specs.Read.{sees, separated_at, many_at}
+use Rattle.rw_parser_reading.specs.Read.{sees, separated_at, many_at}
 use Rattle.rw_parser_grammar.specs.declared.lexeme.Mark.TheVariants as m
-use Rattle.rw_parser_grammar.specs.ReadTypes.{begins_apat, apat_at, pattern_over_at}
+use Rattle.rw_parser_reading.specs.ReadTypes.{begins_apat, apat_at, pattern_over_at}
 use Rattle.rw_parser_patterns.specs.Depth.{any_pattern_at}
 use Rattle.rw_parser_patterns.proofs.Enough.{any_pattern_over}
 use Rattle.rw_base.proofs.Answers.{fails_on}

@@ -1,8 +1,8 @@
 use Rattle.std.proofs.Common.{◌≡◌, length, ◌+◌, ◌-◌, ◌*◌, ◌≤◌}
-use Rattle.rw_parser_grammar.specs.Read.{separated_at, many_at}
+use Rattle.rw_parser_reading.specs.Read.{separated_at, many_at}
 use Rattle.rw_parser_grammar.specs.declared.lexeme.Mark.TheVariants as m
 use Rattle.rw_parser_patterns.proofs.Turns.{with_front}
-use Rattle.rw_parser_grammar.specs.ReadTypes.{begins_apat, apat_at}
+use Rattle.rw_parser_reading.specs.ReadTypes.{begins_apat, apat_at}
 use Rattle.rw_parser_patterns.specs.Depth.{any_pattern_at}
 use Rattle.rw_parser_patterns.proofs.pattern.+patterns.Given as goal
 

@@ -1,9 +1,9 @@
 use Rattle.std.proofs.Common.{rules, ◌≡◌, length, ◌+◌, ◌-◌, true, false, drop, ap, sym, ◌∙◌, arith, Some, ◌⊎◌, inl, inr}
 use Rattle.std.proofs.lemmas.Result.{err_from_is_err_and}
-use Rattle.rw_parser_grammar.specs.Read.{sees, separated_at, many_at}
+use Rattle.rw_parser_reading.specs.Read.{sees, separated_at, many_at}
 use Rattle.rw_parser_grammar.specs.declared.lexeme.Mark.TheVariants as m
-use Rattle.rw_parser_grammar.specs.Frames.{frames_of_type, most, cut}
-use Rattle.rw_parser_grammar.specs.ReadTypes.{begins_atype, atype_at}
+use Rattle.rw_parser_reading.specs.Frames.{frames_of_type, most, cut}
+use Rattle.rw_parser_reading.specs.ReadTypes.{begins_atype, atype_at}
 use Rattle.rw_parser_patterns.specs.Given.{counted}
 use Rattle.rw_parser_patterns.specs.Depth.{any_type_at}
 use Rattle.rw_parser_patterns.specs.Kept.{side_behind, atype_kept, btype_kept}

@@ -4,8 +4,8 @@ use Rattle.std.proofs.lemmas.Result.{err_from_is_err_and}
 use Rattle.rw_base.specs.declared.place.Span.{Span}
 use Rattle.rw_tree.specs.declared.expr.Expr.{Expr}
 use Rattle.rw_parser_grammar.specs.declared.lexeme.Lexeme.{Lexeme}
-use Rattle.rw_parser_grammar.specs.Read.{Read, many_at}
-use Rattle.rw_parser_grammar.specs.ReadExpressions.{begins_aexp, aexp_at}
+use Rattle.rw_parser_reading.specs.Read.{Read, many_at}
+use Rattle.rw_parser_reading.specs.ReadExpressions.{begins_aexp, aexp_at}
 use Rattle.rw_base.proofs.Answers.{fails_on}
 use Rattle.rw_parser_patterns.proofs.Turns.{with_front, many_step, many_fail, many_done}
 use Rattle.rw_parser_parts.specs.Within.{expression_within}

@@ -1,7 +1,7 @@
 -- What the loop over arguments keeps.
 use Rattle.std.proofs.Common.{◌≡◌, length, ◌-◌}
-use Rattle.rw_parser_grammar.specs.Read.{many_at}
-use Rattle.rw_parser_grammar.specs.ReadExpressions.{begins_aexp, aexp_at}
+use Rattle.rw_parser_reading.specs.Read.{many_at}
+use Rattle.rw_parser_reading.specs.ReadExpressions.{begins_aexp, aexp_at}
 use Rattle.rw_parser_patterns.proofs.Turns.{with_front}
 use Rattle.rw_parser_parts.specs.Within.{expression_within}
 use Rattle.rw_parser_clauses.proofs.inside.Inside.aexps.Given as goal

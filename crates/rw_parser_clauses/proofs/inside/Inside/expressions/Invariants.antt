@@ -1,6 +1,6 @@
 -- What the loop over expressions with commas between keeps.
 use Rattle.std.proofs.Common.{◌≡◌, length, ◌-◌}
-use Rattle.rw_parser_grammar.specs.Read.{separated_at}
+use Rattle.rw_parser_reading.specs.Read.{separated_at}
 use Rattle.rw_parser_grammar.specs.declared.lexeme.Mark.TheVariants as m
 use Rattle.rw_parser_patterns.proofs.Turns.{with_front}
 use Rattle.rw_parser_parts.specs.Within.{expression_within}

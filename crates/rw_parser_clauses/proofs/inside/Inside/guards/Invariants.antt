@@ -1,8 +1,8 @@
 -- What the loop over guards keeps.
 use Rattle.std.proofs.Common.{◌≡◌, length, ◌-◌}
-use Rattle.rw_parser_grammar.specs.Read.{sees, many_at}
+use Rattle.rw_parser_reading.specs.Read.{sees, many_at}
 use Rattle.rw_parser_grammar.specs.declared.lexeme.Mark.TheVariants as m
-use Rattle.rw_parser_grammar.specs.ReadClauses.{guard_at}
+use Rattle.rw_parser_reading.specs.ReadClauses.{guard_at}
 use Rattle.rw_parser_patterns.proofs.Turns.{with_front}
 use Rattle.rw_parser_parts.specs.Within.{expression_within}
 use Rattle.rw_parser_clauses.proofs.inside.Inside.guards.Given as goal

@@ -4,9 +4,9 @@ use Rattle.std.proofs.lemmas.Result.{err_from_is_err_and}
 use Rattle.rw_base.specs.declared.place.Span.{Span}
 use Rattle.rw_tree.specs.declared.expr.Expr.{Expr}
 use Rattle.rw_parser_grammar.specs.declared.lexeme.Lexeme.{Lexeme}
-use Rattle.rw_parser_grammar.specs.Read.{Read}
-use Rattle.rw_parser_grammar.specs.ReadNames.{begins_op, op_at}
-use Rattle.rw_parser_grammar.specs.ReadExpressions.{begins_last}
+use Rattle.rw_parser_reading.specs.Read.{Read}
+use Rattle.rw_parser_reading.specs.ReadNames.{begins_op, op_at}
+use Rattle.rw_parser_reading.specs.ReadExpressions.{begins_last}
 use Rattle.rw_base.proofs.Answers.{fails_on}
 use Rattle.rw_parser_parts.specs.Steps.{links_at}
 use Rattle.rw_parser_clauses.specs.Inside.{operand_inside}

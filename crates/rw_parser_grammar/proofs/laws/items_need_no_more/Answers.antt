@@ -1,6 +1,0 @@
--- What stands inside something is shorter.
-use Rattle.rw_parser_grammar.proofs.Narrow.{item_narrow}
-use Rattle.rw_parser_grammar.proofs.laws.items_need_no_more.Goals as goal
-
-pub returns : goal.returns
-returns c = λ k n tokens rest item h d. item_narrow k n tokens item rest h d

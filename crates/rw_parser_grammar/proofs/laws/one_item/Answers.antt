@@ -1,8 +1,0 @@
--- Both are what reading gives.
-use Rattle.std.proofs.Common.{ap}
-use Rattle.rw_parser_grammar.proofs.ReadExact.{one_front}
-use Rattle.rw_parser_grammar.proofs.ReadItems.{item_exact}
-use Rattle.rw_parser_grammar.proofs.laws.one_item.Goals as goal
-
-pub returns : goal.returns
-returns c = λ n tokens first second a b d s k z. ap (λ p. p.0) (one_front (item_exact n) tokens (a, first) (b, second) d s k z)

@@ -1,0 +1,1 @@
+-- No words of its own: the laws cite those of rw_parser_grammar and of rw_parser_reading.
