@@ -5,7 +5,7 @@ use Rattle.rw_core.specs.declared.types.DataTy.{DataTy}
 use Rattle.rw_core.specs.Values.{Val, Vals, val, more}
 use Rattle.rw_core.specs.Bits.{constructors_of, fields_of, IsTable, Encodes, tag_width, width_of, binary, padded, encoding, encodings}
 use Rattle.bit_layout.specs.Parts.{number_of, Fill}
-use Rattle.bit_layout.proofs.Tags.{tag_width-enough}
+use Rattle.rw_core.specs.TagWidths.{tag_width-enough}
 use Rattle.bit_layout.proofs.Shapes.{fields_fit}
 use Rattle.bit_layout.proofs.Pieces.{take_front, drop_front, length-binary, number_of-binary, binary-number_of, padded-append, length-padded}
 use Rattle.bit_layout.proofs.Lengths.{length-encoding, length-encodings}

@@ -4,83 +4,10 @@ use rewire_top::{Status, rewire};
 use rw_base::{MemorySink, MemoryStore};
 use std::alloc::{AllocError, Global};
 use std::test::Fail;
+use vhdl_tests::texts::{OSCILLATING, SWITCH};
 
-// A register of one bit that each 1 of the input turns over.
-pub const SWITCH: &[u8] = b"\
-    library ieee ;\n\
-    use ieee . std_logic_1164 . all ;\n\
-    entity rewire is\n\
-    port ( clk : in std_logic ;\n\
-    rst : in std_logic ;\n\
-    inp : in std_logic_vector ( 0 downto 0 ) ;\n\
-    outp : out std_logic_vector ( 0 downto 0 ) ) ;\n\
-    end rewire ;\n\
-    architecture behaviour of rewire is\n\
-    signal s0 : std_logic_vector ( 0 downto 0 ) ;\n\
-    function f0 ( p0 : std_logic_vector ;\n\
-    p1 : std_logic_vector ) return std_logic_vector is\n\
-    variable v0 : std_logic_vector ( 0 downto 0 ) ;\n\
-    variable v1 : std_logic_vector ( 0 downto 0 ) ;\n\
-    variable v2 : std_logic_vector ( 0 downto 0 ) ;\n\
-    begin\n\
-    v0 := p0 ;\n\
-    v1 := p1 ;\n\
-    v2 := v1 ;\n\
-    if v0 = \"1\" and v1 = \"0\" then\n\
-    v2 := \"1\" ;\n\
-    elsif v0 = \"1\" then\n\
-    v2 := \"0\" ;\n\
-    end if ;\n\
-    return v2 ;\n\
-    end f0 ;\n\
-    begin\n\
-    process ( clk ) begin\n\
-    if rising_edge ( clk ) then\n\
-    if rst = '1' then\n\
-    s0 <= \"0\" ;\n\
-    else\n\
-    s0 <= f0 ( inp , s0 ) ;\n\
-    end if ;\n\
-    end if ;\n\
-    end process ;\n\
-    process ( s0 ) begin\n\
-    outp <= s0 ;\n\
-    end process ;\n\
-    end behaviour ;\n\
-    ";
-
-// Two processes that feed each other without an end.
-pub const OSCILLATING: &[u8] = b"\
-    library ieee ;\n\
-    use ieee . std_logic_1164 . all ;\n\
-    entity rewire is\n\
-    port ( clk : in std_logic ;\n\
-    rst : in std_logic ;\n\
-    inp : in std_logic_vector ( 0 downto 0 ) ;\n\
-    outp : out std_logic_vector ( 0 downto 0 ) ) ;\n\
-    end rewire ;\n\
-    architecture behaviour of rewire is\n\
-    signal s0 : std_logic_vector ( 0 downto 0 ) ;\n\
-    signal s1 : std_logic_vector ( 0 downto 0 ) ;\n\
-    begin\n\
-    process ( s0 ) begin\n\
-    if s0 = \"1\" then\n\
-    s1 <= \"0\" ;\n\
-    else\n\
-    s1 <= \"1\" ;\n\
-    end if ;\n\
-    end process ;\n\
-    process ( s1 ) begin\n\
-    s0 <= s1 ;\n\
-    end process ;\n\
-    process ( s0 ) begin\n\
-    outp <= s0 ;\n\
-    end process ;\n\
-    end behaviour ;\n\
-    ";
-
-// The same, while the input is 1.
-pub const OSCILLATING_LATER: &[u8] = b"\
+// Two processes that feed each other without an end, while the input is 1.
+const OSCILLATING_LATER: &[u8] = b"\
     library ieee ;\n\
     use ieee . std_logic_1164 . all ;\n\
     entity rewire is\n\
@@ -132,7 +59,9 @@ fn words(alloc: Global, texts: &[&str]) -> Result<Vec<String>, AllocError> {
 fn texts_are_simulated(rt: HostRuntime) -> Result<(), Fail> {
     let alloc = rt.alloc();
     let asked = words(alloc, &["sim", "a", "b"])?;
-    let cut = SWITCH.len() - b"end process ;\nend behaviour ;\n".len();
+    let cut = SWITCH
+        .len()
+        .saturating_sub(b"end process ;\nend behaviour ;\n".len());
     for (text, trace, number, shown, line) in [
         (
             SWITCH,

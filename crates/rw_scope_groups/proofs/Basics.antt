@@ -1,48 +1,11 @@
--- Tests, and what is in a list.
-use Rattle.std.proofs.Common.{◌≡◌, ◌⊎◌, inl, inr, ℕ, zero, suc, Bool, true, false, ◌||◌, List, [], ◌∷◌, flat_map, filter, slice_get, Some, Result, Ok, Err, IfOk, OnOk, refl, sym, ap, subst, ◌∙◌, cond}
+-- What is in a list, and passes a test.
+use Rattle.std.proofs.Common.{◌≡◌, inl, inr, ℕ, zero, suc, Bool, true, ◌||◌, List, [], ◌∷◌, flat_map, filter, slice_get, Some, Result, Ok, Err, IfOk, OnOk, refl, sym, ap, subst, ◌∙◌, cond}
 use Rattle.std.specs.List.{list_any}
 use Rattle.std.proofs.lemmas.List.Folds.{list_any-append}
-
-pub true_or_false : (b : Bool) → (b ≡ true) ⊎ (b ≡ false)
-true_or_false true = inl refl
-true_or_false false = inr refl
-
-pub clash : {P : Type 0} (b : Bool) → b ≡ true → b ≡ false → P
-clash b e f = let k : true ≡ false = sym e ∙ f in absurd (cc)
-
--- two tests that imply each other
-pub alike : (a b : Bool) → (a ≡ true → b ≡ true) → (b ≡ true → a ≡ true) → a ≡ b
-alike a b f g = elim (true_or_false a) [
-  | inl e ↦ e ∙ sym (f e)
-  | inr e ↦ elim (true_or_false b) [
-    | inl h ↦ clash a (g h) e
-    | inr h ↦ e ∙ sym h
-  ]
-]
-
-pub or_left : (a b : Bool) → a ≡ true → (a || b) ≡ true
-or_left a b e = ap (λ c. c || b) e
-
-pub or_right : (a b : Bool) → b ≡ true → (a || b) ≡ true
-or_right true b e = refl
-or_right false b e = e
-
-pub either : (a b : Bool) → (a || b) ≡ true → (a ≡ true) ⊎ (b ≡ true)
-either true b e = inl refl
-either false b e = inr e
-
-abbrev pub In : {X : Type 0} → X → List X → Type 0
-In x [] = ⊥
-In x (y ∷ ys) = (x ≡ y) ⊎ In x ys
+use Rattle.rw_scope_graph.proofs.Passing.{true_or_false, or_left, or_right, either}
+use Rattle.rw_scope_rules.proofs.Basics.{In}
 
 module _ {X : Type 0} where
-  pub any_more : (p q : X → Bool) (xs : List X) → ((x : X) → p x ≡ true → q x ≡ true) → list_any p xs ≡ true → list_any q xs ≡ true
-  any_more p q [] h e = e
-  any_more p q (x ∷ xs) h e = elim (either (p x) (list_any p xs) e) [
-    | inl l ↦ or_left (q x) (list_any q xs) (h x l)
-    | inr r ↦ or_right (q x) (list_any q xs) (any_more p q xs h r)
-  ]
-
   pub any_in : (p : X → Bool) (xs : List X) (x : X) → In x xs → p x ≡ true → list_any p xs ≡ true
   any_in p [] x i e = absurd i
   any_in p (y ∷ ys) x (inl s) e = or_left (p y) (list_any p ys) (ap p (sym s) ∙ e)

@@ -8,7 +8,9 @@ use Rattle.rw_tree.specs.Trees.{LocalBinding}
 use Rattle.rw_base.specs.declared.place.Place.{Place}
 use Rattle.rw_scope_rules.specs.Groups.{own_numbers, mentioned_numbers, waits, placed_once, placed_times, never_placed, binding_place}
 use Rattle.rw_scope_groups.specs.Rows.{owners_here, owners, owners_of, group_graph, selected}
-use Rattle.rw_scope_groups.proofs.Basics.{true_or_false, clash, In, any_more, in_filter, filter_in, filter_all, in_at, any_flat, in_flat, flat_in}
+use Rattle.rw_scope_graph.proofs.Passing.{true_or_false, clash, any_more}
+use Rattle.rw_scope_rules.proofs.Basics.{In}
+use Rattle.rw_scope_groups.proofs.Basics.{in_filter, filter_in, filter_all, in_at, any_flat, in_flat, flat_in}
 
 abbrev Binding : Type 0
 Binding = LocalBinding Bound

@@ -6,7 +6,8 @@ use Rattle.rw_tree.specs.declared.types.Kind.TheVariants.{Plain, StateMonad, Mon
 use Rattle.rw_scope_rules.specs.Names.{Bytes, same_name, first_named}
 use Rattle.rw_scope_rules.specs.Kinds.{kinds_agree, uses_agree}
 use Rattle.rw_scope_kinds.specs.Agreeing.{agrees_with, agree_after}
-use Rattle.rw_scope_kinds.proofs.Basics.{true_or_false, clash, one_name, same_is, swapped, In, in_front, in_back, in_parts, all_of, all_if, none_all}
+use Rattle.rw_scope_rules.proofs.Basics.{true_or_false, clash, one_name, same_is, swapped, In, in_front, in_back, in_parts}
+use Rattle.rw_scope_kinds.proofs.Basics.{all_of, all_if, none_all}
 
 abbrev Use : Type 0
 Use = Bytes × Kind

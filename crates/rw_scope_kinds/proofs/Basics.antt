@@ -1,15 +1,7 @@
--- Tests, and names that are the same.
-use Rattle.std.proofs.Common.{◌≡◌, ◌⊎◌, inl, inr, Bool, true, false, ◌&&◌, List, [], ◌∷◌, ◌++◌, refl, sym, ap, ◌∙◌}
+-- Tests that all of a list pass.
+use Rattle.std.proofs.Common.{◌≡◌, inl, inr, Bool, true, false, ◌&&◌, List, [], ◌∷◌, refl, ap, ◌∙◌}
 use Rattle.std.specs.List.{list_all}
-use Rattle.std.proofs.lemmas.Slice.Eq.{bytes_eq-Decides}
-use Rattle.rw_scope_rules.specs.Names.{Bytes, same_name}
-
-pub true_or_false : (b : Bool) → (b ≡ true) ⊎ (b ≡ false)
-true_or_false true = inl refl
-true_or_false false = inr refl
-
-pub clash : {P : Type 0} (b : Bool) → b ≡ true → b ≡ false → P
-clash b e f = let k : true ≡ false = sym e ∙ f in absurd (cc)
+use Rattle.rw_scope_rules.proofs.Basics.{true_or_false, clash, In}
 
 pub both_true : (a b : Bool) → (a && b) ≡ true → (a ≡ true) × (b ≡ true)
 both_true true b e = (refl, e)
@@ -22,41 +14,7 @@ pub and_false : (a b : Bool) → b ≡ false → (a && b) ≡ false
 and_false true b e = e
 and_false false b e = refl
 
-pub one_name : (a b : Bytes) → same_name a b ≡ true → a ≡ b
-one_name a b e = (bytes_eq-Decides a b).0 e
-
-pub same_is : (a b : Bytes) → a ≡ b → same_name a b ≡ true
-same_is a b e = (bytes_eq-Decides a b).1 e
-
-pub swapped : (a b : Bytes) → same_name a b ≡ same_name b a
-swapped a b = elim (true_or_false (same_name a b)) [
-  | inl e ↦ e ∙ sym (same_is b a (sym (one_name a b e)))
-  | inr e ↦ elim (true_or_false (same_name b a)) [
-    | inl f ↦ clash (same_name a b) (same_is a b (sym (one_name b a f))) e
-    | inr f ↦ e ∙ sym f
-  ]
-]
-
--- what is in a list, and a test that all of it pass
-abbrev pub In : {X : Type 0} → X → List X → Type 0
-In x [] = ⊥
-In x (y ∷ ys) = (x ≡ y) ⊎ In x ys
-
 module _ {X : Type 0} where
-  pub in_front : (x : X) (xs ys : List X) → In x xs → In x (xs ++ ys)
-  in_front x [] ys h = absurd h
-  in_front x (z ∷ zs) ys (inl e) = inl e
-  in_front x (z ∷ zs) ys (inr r) = inr (in_front x zs ys r)
-
-  pub in_back : (x : X) (xs ys : List X) → In x ys → In x (xs ++ ys)
-  in_back x [] ys h = h
-  in_back x (z ∷ zs) ys h = inr (in_back x zs ys h)
-
-  pub in_parts : (x : X) (xs ys : List X) → In x (xs ++ ys) → (In x xs) ⊎ (In x ys)
-  in_parts x [] ys h = inr h
-  in_parts x (z ∷ zs) ys (inl e) = inl (inl e)
-  in_parts x (z ∷ zs) ys (inr r) = elim (in_parts x zs ys r) [ inl l ↦ inl (inr l) | inr k ↦ inr k ]
-
   pub all_of : (p : X → Bool) (xs : List X) → list_all p xs ≡ true → (x : X) → In x xs → p x ≡ true
   all_of p [] e x h = absurd h
   all_of p (y ∷ ys) e x (inl s) = ap p s ∙ (both_true (p y) (list_all p ys) e).0

@@ -13,7 +13,7 @@ use Rattle.rw_scope_rules.specs.Names.{Bytes, same_name, is_among, first_named, 
 use Rattle.rw_scope_rules.specs.Kinds.{data_mentions, mentioned_by, reached, is_recursive, is_empty, ill_founded}
 use Rattle.rw_scope_kinds.specs.declared.mentions.Made.{Made}
 use Rattle.rw_scope_kinds.specs.Mentions.{PlainMade, plain_made, made_of, mentions_of, numbered, numbers_by, mention_graph, ill_made, mark_at, is_marked_by, ill_by}
-use Rattle.rw_scope_kinds.proofs.Basics.{true_or_false, clash, one_name, same_is}
+use Rattle.rw_scope_rules.proofs.Basics.{true_or_false, clash, one_name, same_is}
 
 is_number : (i j : ℕ) → nat_eq i j ≡ true → i ≡ j
 is_number i j e = grind (arith, nat_tests)

@@ -11,7 +11,7 @@ use Rattle.rw_scope_rules.specs.Names.{Bytes, first_named}
 use Rattle.rw_scope_rules.specs.Scope.{type_constructors, types_constructors, fields_of}
 use Rattle.rw_scope_kinds.specs.declared.mentions.Made.{Made}
 use Rattle.rw_scope_kinds.specs.Mentions.{plain_made, numbered}
-use Rattle.rw_scope_kinds.proofs.Tables.{by_itself}
+use Rattle.rw_scope_uses.proofs.Tables.{by_itself}
 
 pub flat_append : {X Y : Type 0} (f : X → List Y) (xs ys : List X) → flat_map f (xs ++ ys) ≡ flat_map f xs ++ flat_map f ys
 flat_append f [] ys = refl

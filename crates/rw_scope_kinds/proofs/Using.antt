@@ -1,19 +1,13 @@
 -- Uses that are noted one after the other.
-use Rattle.std.proofs.Common.{◌≡◌, ℕ, ◌+◌, ◌<◌, Bool, true, ◌&&◌, List, [], ◌∷◌, ◌++◌, append-nil, length, take, drop, get_or, Some, refl, sym, ap, ◌∙◌, arith}
+use Rattle.std.proofs.Common.{◌≡◌, ℕ, ◌+◌, ◌<◌, Bool, true, ◌&&◌, List, [], ◌∷◌, ◌++◌, append-nil, length, take, drop, get_or, Some, sym, ap, ◌∙◌, arith}
 use Rattle.std.proofs.lemmas.Grind.{common_steps}
 use Rattle.rw_tree.specs.declared.types.Kind.{Kind}
 use Rattle.rw_scope_rules.specs.Names.{Bytes, first_named}
-use Rattle.rw_scope_kinds.specs.declared.uses.Use.{Use}
-use Rattle.rw_scope_kinds.specs.Spine.{plain_use, plain_uses}
+use Rattle.rw_scope_uses.specs.declared.uses.Use.{Use}
+use Rattle.rw_scope_uses.specs.Spine.{plain_use, plain_uses}
 use Rattle.rw_scope_kinds.specs.Agreeing.{agrees_with, agree_after}
-use Rattle.rw_scope_kinds.proofs.Tables.{second_passed, before_rest}
-
-map_more : (us : List Use) (u : Use) → plain_uses (us ++ u ∷ []) ≡ plain_uses us ++ plain_use u ∷ []
-map_more [] u = refl
-map_more (v ∷ vs) u = ap (λ ws. plain_use v ∷ ws) (map_more vs u)
-
-pub uses_more : (new old : List Use) (u : Use) → new ≡ old ++ u ∷ [] → plain_uses new ≡ plain_uses old ++ plain_use u ∷ []
-uses_more new old u e = ap plain_uses e ∙ map_more old u
+use Rattle.rw_scope_uses.proofs.Tables.{second_passed, before_rest}
+use Rattle.rw_scope_uses.proofs.Using.{uses_more}
 
 -- a use of a name that is known, and one of a name that isn't
 pub known_use : (firsts : List (Bytes × Kind)) (u : Bytes × Kind) (k : Kind) → Some k ≡ first_named u.0 firsts → (x : Bytes) → first_named x firsts ≡ first_named x (firsts ++ u ∷ [])

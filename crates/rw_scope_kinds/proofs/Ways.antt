@@ -3,7 +3,7 @@ use Rattle.std.proofs.Common.{◌≡◌, ◌⊎◌, inl, inr, ℕ, zero, suc, �
 use Rattle.std.proofs.lemmas.List.Folds.{list_any-append}
 use Rattle.rw_scope_rules.specs.Names.{Bytes, same_name, is_among, first_named}
 use Rattle.rw_scope_rules.specs.Kinds.{mentioned_by, reached, is_recursive}
-use Rattle.rw_scope_kinds.proofs.Basics.{true_or_false, clash, one_name, same_is, In}
+use Rattle.rw_scope_rules.proofs.Basics.{true_or_false, clash, one_name, same_is, In}
 
 abbrev Types : Type 0
 Types = List (Bytes × List Bytes)

@@ -1,33 +1,18 @@
--- What the constructors of types take where a type stands, in a signature or in a field.
-use Rattle.std.specs.Prelude.{◌≡◌, List, [], Bool, true, false, not, ◌&&◌, Option, None}
+-- The places of the types that are wrong, by contexts.
+use Rattle.std.specs.Prelude.{List, [], Bool, not, ◌&&◌}
 use Rattle.std.specs.List.{list_all}
 use Rattle.rw_base.specs.declared.place.Place.{Place}
 use Rattle.rw_base.specs.declared.place.Span.{Span}
-use Rattle.rw_tree.specs.declared.types.Kind.{Kind}
-use Rattle.rw_tree.specs.declared.types.Kind.TheVariants.{Plain, StateMonad, Monad}
+use Rattle.rw_tree.specs.declared.types.Kind.TheVariants.{Plain}
 use Rattle.rw_tree.specs.Types.{WrittenType}
 use Rattle.rw_tree.specs.Declarations.{Declaration, data_declaration, signature_declaration}
-use Rattle.rw_scope_rules.specs.Names.{Bytes, first_named, at_if}
+use Rattle.rw_scope_rules.specs.Names.{at_if}
 use Rattle.rw_tree.specs.Trees.{local_signature}
 use Rattle.rw_scope_rules.specs.Nodes.{Node, binding_node}
 use Rattle.rw_scope_rules.specs.Scope.{fields_of, type_variables}
-use Rattle.rw_scope_rules.specs.Kinds.{uses_of, well_used, plainly_used, has_none, takes_in_signature, takes_in_field}
-use Rattle.rw_scope_kinds.specs.declared.context.Context.{Context}
-
--- what a constructor of types takes to be of a kind
-abbrev pub takes_in : Context → Bytes → Kind → Option (List Kind)
-takes_in context c Plain = first_named c context.types
-takes_in context c StateMonad = first_named c context.monads
-takes_in context c Monad = None
-
--- a context is that of signatures, or that of fields
-pub record IsOfSignatures (decls : List (Declaration Span)) (context : Context) : Type 0 where
-  pub takes : takes_in context ≡ takes_in_signature decls
-  pub arrows : context.arrows ≡ true
-
-pub record IsOfFields (decls : List (Declaration Span)) (context : Context) : Type 0 where
-  pub takes : takes_in context ≡ takes_in_field decls
-  pub arrows : context.arrows ≡ false
+use Rattle.rw_scope_rules.specs.Kinds.{uses_of, well_used, plainly_used, has_none}
+use Rattle.rw_scope_uses.specs.declared.context.Context.{Context}
+use Rattle.rw_scope_uses.specs.Contexts.{takes_in}
 
 -- the places of the types that are wrong, by what says that a field's type and a signature's is right
 abbrev pub wrong_in_declaration : (WrittenType → Bool) → (WrittenType → Bool) → Declaration Span → List Place

@@ -1,5 +1,4 @@
 -- What functions inside promise each other.
 pub mod Contexts
-pub mod Spine
 pub mod Agreeing
 pub mod Mentions

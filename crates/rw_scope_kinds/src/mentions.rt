@@ -6,8 +6,8 @@ ghost use Rattle.rw_scope_rules.specs.Names.{Bytes, first_named};
 ghost use Rattle.rw_scope_rules.specs.Scope.{fields_of, type_constructors, types_constructors};
 ghost use Rattle.rw_scope_kinds.specs.Mentions.{made_of, mention_graph, numbered, numbers_by, plain_made};
 
-use crate::table::Table;
 use rw_base::{OutOfMemory, Span};
+use rw_scope_uses::Table;
 use rw_tree::{Constructor, DataDecl, Decl, Written};
 use sqlite_items::Items;
 use std::alloc::Global;

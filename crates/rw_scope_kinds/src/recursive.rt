@@ -6,9 +6,9 @@ ghost use Rattle.rw_scope_rules.specs.Kinds.{is_empty, recursive_or_empty as rec
 ghost use Rattle.rw_scope_kinds.specs.Mentions.{ill_by, is_marked_by, plain_made};
 
 use crate::mentions::{Made, data_types, mentions, numbers};
-use crate::table::Table;
 use rw_base::{OutOfMemory, Place, Span};
 use rw_scope_graph::circular;
+use rw_scope_uses::Table;
 use rw_tree::Program;
 use std::alloc::Global;
 

@@ -1,23 +1,16 @@
-// Uses of type variables: at which kinds a variable stands, and whether these agree.
+// Uses of type variables: whether the kinds at which a variable stands agree.
 ghost use Rattle.std.specs.Prelude.{◌≡◌, ◌∷◌, ◌++◌, [], IfOk, OnOk};
 ghost use Rattle.std.specs.List.{list_all};
 ghost use Rattle.rw_tree.specs.declared.types.Kind.TheVariants.{Plain};
 ghost use Rattle.rw_scope_rules.specs.Names.{Bytes, first_named};
 ghost use Rattle.rw_scope_rules.specs.Kinds.{kinds_agree};
-ghost use Rattle.rw_scope_kinds.specs.Spine.{plain_use, plain_uses};
+ghost use Rattle.rw_scope_uses.specs.Spine.{plain_use, plain_uses};
 ghost use Rattle.rw_scope_kinds.specs.Agreeing.{agree_after, agrees_with};
 
-use crate::table::Table;
-use rw_base::{Name, OutOfMemory};
+use rw_base::OutOfMemory;
+use rw_scope_uses::{Table, Use};
 use rw_tree::Kind;
 use std::alloc::Global;
-
-// A variable, and the kind at which it stands.
-#[derive(Clone, Copy)]
-pub struct Use<'a> {
-    pub name: &'a Name,
-    pub kind: Kind,
-}
 
 // Whether a variable may stand at both kinds: a monad and a state monad agree.
 fn agree(one: Kind, other: Kind) -> bool

@@ -8,12 +8,11 @@ ghost use Rattle.rw_scope_rules.specs.Kinds.{misused as misused_of};
 ghost use Rattle.rw_scope_nodes.specs.Plain.{plain_node};
 ghost use Rattle.rw_scope_kinds.specs.Contexts.{fits_field, fits_signature, wrong_in_declaration, wrong_in_node};
 
-use crate::check::check_type;
-use crate::context::{Context, of_fields, of_signatures};
 use crate::uses::{all_agree, all_plain};
 use crate::variables::has_variable;
 use rw_base::{OutOfMemory, Place, Span};
 use rw_scope_nodes::{Node, nodes};
+use rw_scope_uses::{Context, add_uses, of_fields, of_signatures};
 use rw_tree::{Constructor, Decl, Local, Program, Written};
 use std::alloc::Global;
 
@@ -22,7 +21,7 @@ fn signature_fits(alloc: Global, context: &Context, ty: &Written) -> Result<bool
     ensures { IfOk result (λ fits. fits ≡ fits_signature context.now (written ty.now)) }
 {
     let mut uses = Vec::new(alloc);
-    if !check_type(context, ty, &mut uses)? {
+    if !add_uses(context, ty, &mut uses)? {
         return Ok(false);
     }
     all_agree(alloc, uses.as_slice())
@@ -33,7 +32,7 @@ fn field_fits(alloc: Global, context: &Context, ty: &Written) -> Result<bool, Ou
     ensures { IfOk result (λ fits. fits ≡ fits_field context.now (written ty.now)) }
 {
     let mut uses = Vec::new(alloc);
-    if !check_type(context, ty, &mut uses)? {
+    if !add_uses(context, ty, &mut uses)? {
         return Ok(false);
     }
     Ok(all_plain(uses.as_slice()))

@@ -4,7 +4,7 @@ use Rattle.std.proofs.lemmas.Grind.{common_steps}
 use Rattle.indexmap.specs.IndexMap.{IndexMap, get_by, with_entries, insert_entry}
 use Rattle.indexmap.proofs.CallerLemmas.{insert_entry-new}
 use Rattle.rw_scope_rules.specs.Names.{Bytes, same_name, first_named}
-use Rattle.rw_scope_uses.proofs.Basics.{true_or_false, one_name, swapped}
+use Rattle.rw_scope_rules.proofs.Basics.{true_or_false, one_name, swapped}
 
 pub found : {V S : Type 0} (m : IndexMap Bytes V S) (x : Bytes) (es : List (Bytes × V)) → get_by (same_name x) (with_entries m es) ≡ first_named x es
 found m x [] = refl
@@ -47,6 +47,21 @@ module _ {V : Type 0} where
   by_itself x es fs h = ap (first_named x) (sym (append-nil es)) ∙ h [] ∙ ap (first_named x) (append-nil fs)
 
 module _ {V : Type 0} where
+  -- what a rest says counts where nothing was said before
+  unknown_first : (x : Bytes) (es rest : List (Bytes × V)) → first_named x es ≡ None → first_named x (es ++ rest) ≡ first_named x rest
+  unknown_first x [] rest h = refl
+  unknown_first x (e ∷ es) rest h = elim (true_or_false (same_name x e.0)) [
+    | inl s ↦ let k : Some e.1 ≡ None = sym (ap (λ b. if b then Some e.1 else first_named x es) s) ∙ h in absurd (cc)
+    | inr s ↦ ap (λ b. if b then Some e.1 else first_named x (es ++ rest)) s ∙ unknown_first x es rest (sym (ap (λ b. if b then Some e.1 else first_named x es) s) ∙ h)
+  ]
+
+  pub before_rest : (x : Bytes) (es fs rest : List (Bytes × V)) → first_named x es ≡ first_named x fs → first_named x (es ++ rest) ≡ first_named x (fs ++ rest)
+  before_rest x es fs rest h = by (first_named x es) refl
+    where
+      by : (r : Option V) → first_named x es ≡ r → first_named x (es ++ rest) ≡ first_named x (fs ++ rest)
+      by None e = unknown_first x es rest e ∙ sym (unknown_first x fs rest (sym h ∙ e))
+      by (Some v) e = known_first x es rest v e ∙ sym (known_first x fs rest v (sym h ∙ e))
+
   is_not_there : (o : Option V) → is_some o ≡ false → o ≡ None
   is_not_there None h = refl
   is_not_there (Some v) h = absurd (cc)

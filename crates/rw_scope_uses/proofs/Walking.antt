@@ -10,7 +10,7 @@ use Rattle.rw_tree.proofs.Plains as plain
 use Rattle.rw_scope_rules.specs.Names.{Bytes}
 use Rattle.rw_scope_rules.specs.Kinds.{Uses, both, at_kinds, uses_of, parts_uses}
 use Rattle.rw_scope_uses.specs.Spine.{is_applied, count_types, inner_uses, if_fit}
-use Rattle.rw_scope_uses.proofs.Basics.{clash}
+use Rattle.rw_scope_rules.proofs.Basics.{clash}
 use Rattle.rw_scope_uses.proofs.Joining.{both_none, then_wrong, then_more, unlike}
 
 pub on_ok : {T E : Type 0} {P Q : T → Type 0} (r : Result T E) → ((x : T) → P x → Q x) → IfOk r P → IfOk r Q

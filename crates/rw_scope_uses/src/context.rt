@@ -1,16 +1,17 @@
-// What the constructors of types take where a type stands in a signature: the monads and the data types.
+// What the constructors of types take where a type stands: in a signature the monads and the data types, in a field the
+// data types alone.
 ghost use Rattle.std.specs.Prelude.{◌≡◌, ◌∷◌, ◌++◌, List, IfOk, OnOk, map, flat_map};
 ghost use Rattle.std.specs.Option.{option_copied};
 ghost use Rattle.rw_tree.specs.declared.types.Kind.TheVariants.{Plain};
+ghost use Rattle.rw_base.specs.declared.place.Span.{Span as PlainSpan};
 ghost use Rattle.rw_tree.specs.Declarations.{declaration};
 ghost use Rattle.rw_tree.specs.declared.types.Kind.{Kind as PlainKind};
 ghost use Rattle.rw_scope_rules.specs.Names.{Bytes, first_named};
 ghost use Rattle.rw_scope_rules.specs.Kinds.{computations, data_kinds, state_monads};
-ghost use Rattle.rw_scope_uses.specs.Contexts.{takes_in, IsOfSignatures};
+ghost use Rattle.rw_scope_uses.specs.Contexts.{takes_in, IsOfFields, IsOfSignatures};
 
 use crate::table::Table;
 use rw_base::{Name, OutOfMemory};
-use rw_scope_rules::Bound;
 use rw_tree::{Decl, Kind};
 use sqlite_items::Items;
 use std::alloc::Global;
@@ -53,12 +54,12 @@ fn plain_kinds(alloc: Global, params: &[Name]) -> Result<Items<Kind>, OutOfMemor
 }
 
 // Adds the data type of a declaration, if it is of one.
-fn add_decl(
+fn add_decl<A>(
     alloc: Global,
     types: &mut Table<Items<Kind>>,
-    decl: &Decl<Bound>,
+    decl: &Decl<A>,
 ) -> Result<(), OutOfMemory>
-    ensures { OnOk result ((x : Bytes) (rest : List (Bytes × List PlainKind)) → first_named x (types.new ++ rest) ≡ first_named x (types.old ++ (data_kinds (declaration (λ a. a.span) decl.now) ++ rest))) }
+    ensures { OnOk result ((see : A → PlainSpan) (x : Bytes) (rest : List (Bytes × List PlainKind)) → first_named x (types.new ++ rest) ≡ first_named x (types.old ++ (data_kinds (declaration see decl.now) ++ rest))) }
 {
     match decl {
         Decl::Data(_, made) => {
@@ -70,12 +71,12 @@ fn add_decl(
 }
 
 // Adds the data types of these declarations.
-fn add_data(
+fn add_data<A>(
     alloc: Global,
     types: &mut Table<Items<Kind>>,
-    decls: &[Decl<Bound>],
+    decls: &[Decl<A>],
 ) -> Result<(), OutOfMemory>
-    ensures { OnOk result ((x : Bytes) (rest : List (Bytes × List PlainKind)) → first_named x (types.new ++ rest) ≡ first_named x (types.old ++ (flat_map data_kinds (map (declaration (λ a. a.span)) decls.now) ++ rest))) }
+    ensures { OnOk result ((see : A → PlainSpan) (x : Bytes) (rest : List (Bytes × List PlainKind)) → first_named x (types.new ++ rest) ≡ first_named x (types.old ++ (flat_map data_kinds (map (declaration see) decls.now) ++ rest))) }
 {
     for decl in decls {
         add_decl(alloc, types, decl)?;
@@ -117,9 +118,9 @@ fn add_monads(alloc: Global, table: &mut Table<Items<Kind>>) -> Result<(), OutOf
     add_monad(alloc, table, b"StateT", &[Kind::Plain, Kind::StateMonad])
 }
 
-/// The context of signatures of a program with these declarations.
-pub fn of_signatures(alloc: Global, decls: &[Decl<Bound>]) -> Result<Context, OutOfMemory>
-    ensures { IfOk result (λ context. IsOfSignatures (map (declaration (λ a. a.span)) decls.now) context) }
+/// The context of signatures of a program with these declarations, whatever stands at their nodes.
+pub fn of_signatures<A>(alloc: Global, decls: &[Decl<A>]) -> Result<Context, OutOfMemory>
+    ensures { IfOk result (λ context. (see : A → PlainSpan) → IsOfSignatures (map (declaration see) decls.now) context) }
 {
     let mut types = Table::new(alloc);
     add_computations(alloc, &mut types)?;
@@ -130,5 +131,18 @@ pub fn of_signatures(alloc: Global, decls: &[Decl<Bound>]) -> Result<Context, Ou
         types,
         monads,
         arrows: true,
+    })
+}
+
+/// That of fields.
+pub fn of_fields<A>(alloc: Global, decls: &[Decl<A>]) -> Result<Context, OutOfMemory>
+    ensures { IfOk result (λ context. (see : A → PlainSpan) → IsOfFields (map (declaration see) decls.now) context) }
+{
+    let mut types = Table::new(alloc);
+    add_data(alloc, &mut types, decls)?;
+    Ok(Context {
+        types,
+        monads: Table::new(alloc),
+        arrows: false,
     })
 }

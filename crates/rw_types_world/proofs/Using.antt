@@ -7,7 +7,7 @@ use Rattle.rw_types_rules.specs.Written.{joined_kind, kind_in}
 use Rattle.rw_types_equations.proofs.Rows.{drop_next}
 use Rattle.rw_scope_uses.specs.declared.uses.Use.{Use}
 use Rattle.rw_scope_uses.specs.Spine.{plain_uses}
-use Rattle.rw_scope_uses.proofs.Basics.{one_name}
+use Rattle.rw_scope_rules.proofs.Basics.{one_name}
 use Rattle.rw_types_world.specs.Parts.{kind_or_plain, kind_by}
 
 -- the kinds after a name has got one

@@ -1,8 +1,9 @@
 //! The tests of VHDL: designs as texts and texts as designs, the static rules, names resolved to places, delta cycles, and the plain
 //! simulator that the definitions are computed by.
 //!
-//! It leaves the definitions computed by proof to `vhdl_worked`, and traces to `machine_tests`. Nothing uses it: it stands apart so
-//! that a stage is proved once, and not once more beside its tests. Begin with `print.rt` and `read.rt`, then `cycle.rt`.
+//! It leaves the definitions computed by proof to `vhdl_worked`, and traces to `machine_tests`. Only `command_tests` uses it, for its
+//! texts: it stands apart so that a stage is proved once, and not once more beside its tests. Begin with `print.rt` and `read.rt`, then
+//! `cycle.rt`.
 #![tactic(auto)]
 
 #[cfg(test)]
@@ -21,5 +22,4 @@ mod read;
 mod resolve;
 #[cfg(test)]
 mod static_rules;
-#[cfg(test)]
-mod texts;
+pub mod texts;

@@ -1,78 +1,25 @@
 // A text and its answers: worked examples, and what is refused with which rule.
 
+use crate::texts::SWITCH;
 use rw_base::VRule;
 use std::alloc::{AllocError, Global};
 use std::test::Fail;
 use vh_tree::{Process, VExpr, VStmt};
 use vhdl_read::{VFail, read};
 
-// A register of one bit that each 1 of the input turns over, up to its last process.
-const FRONT: &[u8] = b"\
-    library ieee ;\n\
-    use ieee . std_logic_1164 . all ;\n\
-    entity rewire is\n\
-    port ( clk : in std_logic ;\n\
-    rst : in std_logic ;\n\
-    inp : in std_logic_vector ( 0 downto 0 ) ;\n\
-    outp : out std_logic_vector ( 0 downto 0 ) ) ;\n\
-    end rewire ;\n\
-    architecture behaviour of rewire is\n\
-    signal s0 : std_logic_vector ( 0 downto 0 ) ;\n\
-    function f0 ( p0 : std_logic_vector ;\n\
-    p1 : std_logic_vector ) return std_logic_vector is\n\
-    variable v0 : std_logic_vector ( 0 downto 0 ) ;\n\
-    variable v1 : std_logic_vector ( 0 downto 0 ) ;\n\
-    variable v2 : std_logic_vector ( 0 downto 0 ) ;\n\
-    begin\n\
-    v0 := p0 ;\n\
-    v1 := p1 ;\n\
-    if v1 ( 0 downto 0 ) = \"0\" then\n\
-    if v0 ( 0 downto 0 ) = \"0\" then\n\
-    v2 := \"0\" ;\n\
-    else\n\
-    v2 := \"1\" ;\n\
-    end if ;\n\
-    else\n\
-    if v0 ( 0 downto 0 ) = \"0\" then\n\
-    v2 := \"1\" ;\n\
-    else\n\
-    v2 := \"0\" ;\n\
-    end if ;\n\
-    end if ;\n\
-    return v2 ;\n\
-    end f0 ;\n\
-    function f1 ( p0 : std_logic_vector ) return std_logic_vector is\n\
-    variable v0 : std_logic_vector ( 0 downto 0 ) ;\n\
-    variable v1 : std_logic_vector ( 0 downto 0 ) ;\n\
-    begin\n\
-    v0 := p0 ;\n\
-    if v0 ( 0 downto 0 ) = \"0\" then\n\
-    v1 := \"0\" ;\n\
-    else\n\
-    v1 := \"1\" ;\n\
-    end if ;\n\
-    return v1 ;\n\
-    end f1 ;\n\
-    begin\n\
-    process ( clk ) begin\n\
-    if rising_edge ( clk ) then\n\
-    if rst = '1' then\n\
-    s0 <= \"0\" ;\n\
-    else\n\
-    s0 <= f0 ( inp , s0 ) ;\n\
-    end if ;\n\
-    end if ;\n\
-    end process ;\n\
-";
+// The last process of the switch, and what stands behind it.
+const LAST: &[u8] = b"process ( s0 ) begin\noutp <= s0 ;\nend process ;\nend behaviour ;\n";
 
-// The process that shows the register.
-const SHOWS: &[u8] = b"process ( s0 ) begin\noutp <= f1 ( s0 ) ;\nend process ;\n";
+// A process that shows the register when the input is 0.
+const SHOWS: &[u8] =
+    b"process ( inp , s0 ) begin\noutp <= f0 ( inp , s0 ( 0 downto 0 ) ) ;\nend process ;\n";
 
 const END: &[u8] = b"end behaviour ;\n";
 
-// The text of the register with this in place of its last process.
+// The text of the switch with this in place of its last process.
 fn text_with(alloc: Global, last: &[u8]) -> Result<Vec<u8>, AllocError> {
-    let mut text = FRONT.to_vec(alloc)?;
+    let (front, _) = SWITCH.split_at(SWITCH.len().saturating_sub(LAST.len()));
+    let mut text = front.to_vec(alloc)?;
     text.extend_from_slice(last)?;
     text.extend_from_slice(END)?;
     Ok(text)
@@ -97,13 +44,13 @@ const CHOICES: Nest = Nest {
 
 const CALLS: Nest = Nest {
     front: b"process ( s0 ) begin\noutp <= ",
-    before: b"f1 ( ",
+    before: b"f0 ( ",
     middle: b"s0 ",
-    behind: b") ",
+    behind: b", s0 ) ",
     end: b";\nend process ;\n",
 };
 
-// The text of the register with so many levels in its last process.
+// The text of the switch with so many levels in its last process.
 fn nested(alloc: Global, nest: &Nest, levels: usize) -> Result<Vec<u8>, AllocError> {
     let mut process = nest.front.to_vec(alloc)?;
     for _level in 0..levels {
@@ -127,16 +74,21 @@ fn refusal(alloc: Global, text: &[u8]) -> Option<VFail> {
 
 // Whether a process is the one that shows the register.
 fn shows(process: &Process) -> bool {
-    let [heard] = process.sensitive.as_slice() else {
+    let [first, second] = process.sensitive.as_slice() else {
         return false;
     };
     let [VStmt::Assign(target, VExpr::Call(function, arguments))] = process.body.as_slice() else {
         return false;
     };
-    let [VExpr::Name(name)] = arguments.as_slice() else {
+    let [VExpr::Name(name), VExpr::Slice(sliced, 0, 0)] = arguments.as_slice() else {
         return false;
     };
-    heard.is(b"s0") && target.is(b"outp") && function.is(b"f1") && name.is(b"s0")
+    first.is(b"inp")
+        && second.is(b"s0")
+        && target.is(b"outp")
+        && function.is(b"f0")
+        && name.is(b"inp")
+        && sliced.is(b"s0")
 }
 
 // Whether a text is read, as a design of the register's size with its last process.
@@ -147,7 +99,7 @@ fn is_switch(alloc: Global, text: &[u8]) -> bool {
     let [_, last] = design.processes.as_slice() else {
         return false;
     };
-    design.inp == 1 && design.outp == 1 && design.items.len() == 3 && shows(last)
+    design.inp == 1 && design.outp == 1 && design.items.len() == 2 && shows(last)
 }
 
 #[test]
@@ -177,7 +129,7 @@ fn texts_refused(rt: HostRuntime) -> Result<(), Fail> {
         ),
         (b"process ( s0 ) begin outp <= s0 ; end process ", VRule::V3),
         (
-            b"process ( s0 ) begin outp <= f1 ( s1 ) ; end process ;",
+            b"process ( s0 ) begin outp <= f0 ( inp , s1 ) ; end process ;",
             VRule::V4,
         ),
         (
@@ -190,7 +142,7 @@ fn texts_refused(rt: HostRuntime) -> Result<(), Fail> {
         ),
         (b"", VRule::V6),
         (
-            b"process ( s0 ) begin outp <= f1 ( s1 ) ; end process ; )",
+            b"process ( s0 ) begin outp <= f0 ( inp , s1 ) ; end process ; )",
             VRule::V3,
         ),
     ];

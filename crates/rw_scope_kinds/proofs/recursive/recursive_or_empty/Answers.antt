@@ -2,7 +2,7 @@
 use Rattle.std.proofs.Common.{◌∙◌, ap, map, flat_map}
 use Rattle.rw_tree.specs.Declarations.{declaration}
 use Rattle.rw_scope_kinds.specs.Mentions.{made_of}
-use Rattle.rw_scope_kinds.proofs.Walking.{on_ok}
+use Rattle.rw_scope_uses.proofs.Walking.{on_ok}
 use Rattle.rw_scope_kinds.proofs.Circles.{ill_found}
 use Rattle.rw_scope_kinds.proofs.recursive.recursive_or_empty.Goals as goal
 

@@ -1,5 +1,5 @@
 -- A use of a name that is known, and one of a name that isn't.
-use Rattle.rw_scope_kinds.specs.Spine.{plain_use}
+use Rattle.rw_scope_uses.specs.Spine.{plain_use}
 use Rattle.rw_scope_kinds.proofs.Using.{known_use, new_use}
 use Rattle.rw_scope_kinds.proofs.uses.agrees.Goals as goal
 

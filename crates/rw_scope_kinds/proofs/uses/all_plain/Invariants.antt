@@ -3,7 +3,7 @@ use Rattle.std.proofs.Common.{◌≡◌, drop}
 use Rattle.std.specs.List.{list_all}
 use Rattle.rw_tree.specs.declared.types.Kind.TheVariants.{Plain}
 use Rattle.rw_scope_rules.specs.Kinds.{kinds_agree}
-use Rattle.rw_scope_kinds.specs.Spine.{plain_uses}
+use Rattle.rw_scope_uses.specs.Spine.{plain_uses}
 use Rattle.rw_scope_kinds.proofs.uses.all_plain.Given as goal
 
 abbrev pub invariant-loop-one : goal.invariant-loop-one

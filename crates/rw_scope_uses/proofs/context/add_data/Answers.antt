@@ -6,9 +6,9 @@ use Rattle.rw_scope_uses.proofs.Tables.{one_declaration, all_declarations}
 use Rattle.rw_scope_uses.proofs.context.add_data.Goals as goal
 
 pub loop-decl-preserved : goal.loop-decl-preserved
-loop-decl-preserved c =
-    one_declaration (declaration (λ a. a.span)) data_kinds c.args.decls.now c.loop-decl.decl-index c.decl-item.result c.args.types.now c.loop-decl.types c.add_decl.new.types
-    (omega arith) c.decl-item.is c.in_ok-add_decl.ensures c.loop-decl.invariant
+loop-decl-preserved g c see =
+    one_declaration (declaration see) data_kinds c.args.decls.now c.loop-decl.decl-index c.decl-item.result c.args.types.now c.loop-decl.types c.add_decl.new.types
+    (omega arith) c.decl-item.is (c.in_ok-add_decl.ensures see) (c.loop-decl.invariant see)
 
 pub returns : goal.returns
-returns c = all_declarations (declaration (λ a. a.span)) data_kinds c.args.decls.now c.loop-decl.decl-index c.args.types.now c.loop-decl.types (omega arith) c.loop-decl.invariant
+returns g c see = all_declarations (declaration see) data_kinds c.args.decls.now c.loop-decl.decl-index c.args.types.now c.loop-decl.types (omega arith) (c.loop-decl.invariant see)
