@@ -13,10 +13,9 @@ ghost use Rattle.vhdl_read.specs.Reading.{IsUnlessMemory, IsFirstBroken, IsJudgm
 
 use crate::spelled::read_spelled;
 use std::alloc::Global;
-use vh_tree::{
-    Design, first_broken_law, one_design_for_a_text, spellable_designs_are_spelled,
-    tokens_are_scanned,
-};
+use vh_tree::Design;
+use vh_tree_reading::{first_broken_law, one_design_for_a_text, tokens_are_scanned};
+use vh_tree_spelling::spellable_designs_are_spelled;
 use vh_tree_static::{VFail, check_static};
 
 // Read, then checked.

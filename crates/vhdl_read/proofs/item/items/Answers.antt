@@ -1,7 +1,7 @@
 use Rattle.std.proofs.Common.{rules, ◌≡◌, length, ◌+◌, ◌-◌, true, false, ap, sym, ◌∙◌, arith, ◌⊎◌, inl, inr}
 use Rattle.std.proofs.lemmas.Result.{err_from_is_err_and}
-use Rattle.vh_tree.specs.Read.{many_at}
-use Rattle.vh_tree.specs.ReadDesign.{begins_item, item_at}
+use Rattle.vh_tree_reading.specs.Read.{many_at}
+use Rattle.vh_tree_reading.specs.ReadDesign.{begins_item, item_at}
 use Rattle.vhdl_read.proofs.Turns.{with_front, fails_on, many_step, many_fail, many_done, items_turns}
 use Rattle.vhdl_read.proofs.item.items.Goals as goal
 use Rattle.vhdl_read.proofs.item.items.Goals.{else-loop-turn-test, then-loop-turn-test+then-not-begins_item}
