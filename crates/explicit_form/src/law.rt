@@ -3,7 +3,8 @@ ghost use Rattle.explicit_form.specs.Right.{CompiledLaw};
 
 use register_machine::{code_law, machine_law, spellable_law, static_law};
 use rw_lex::one_token_list;
-use vh_tree::{one_design_for_a_text, spellable_designs_are_spelled};
+use vh_tree_reading::one_design_for_a_text;
+use vh_tree_spelling::spellable_designs_are_spelled;
 
 /// What a source of the explicit form is compiled to is right: the text spells exactly one design, which keeps the
 /// static rules, and its ports have the widths of the input and the output type. For every list of inputs and every

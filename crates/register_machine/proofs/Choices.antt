@@ -7,7 +7,7 @@ use Rattle.std.proofs.Math.Nat.{pow-suc}
 use Rattle.std.specs.Prelude.{◌&&◌, if◌then◌else◌}
 use Rattle.vh_tree.specs.Bits.{Bytes, Bits, slice_of, same_bits}
 use Rattle.vh_tree.specs.Functions.{World, stmts_of}
-use Rattle.vh_tree.specs.Equations.{expr_of-Slice, stmt_of-If, branch_of-Branch}
+use Rattle.vh_tree_equations.specs.Equations.{expr_of-Slice, stmt_of-If, branch_of-Branch}
 use Rattle.rw_core.specs.Bits.{binary}
 use Rattle.rw_base.specs.declared.bit.Bit9.{Bit9}
 use Rattle.rw_base.specs.declared.bit.Bit9.TheVariants.{Zero, One}

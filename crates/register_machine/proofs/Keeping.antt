@@ -6,7 +6,7 @@ use Rattle.std.proofs.lemmas.Bool.{cases_lt}
 use Rattle.std.proofs.lemmas.List.Folds.{list_all-map}
 use Rattle.vh_tree.specs.Bits.{Bytes, Bits}
 use Rattle.vh_tree.specs.StaticRules.{keeps, all_true}
-use Rattle.vh_tree.specs.Equations.{keeps-Assign, keeps-If, branch_keeps-Branch}
+use Rattle.vh_tree_equations.specs.Equations.{keeps-Assign, keeps-If, branch_keeps-Branch}
 use Rattle.rw_base.specs.declared.bit.Bit9.TheVariants.{Zero}
 use Rattle.vh_tree.specs.declared.expr.VExpr.{VExpr}
 use Rattle.vh_tree.specs.declared.expr.VExpr.TheVariants.{Name, Slice, Literal}

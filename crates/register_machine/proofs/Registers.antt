@@ -6,7 +6,7 @@ use Rattle.vh_tree.specs.Bits.{Bytes, Bits, same_bits}
 use Rattle.vh_tree.specs.Functions.{Calls, Store, held, expr_of, stmts_of, scope_in, calls_of}
 use Rattle.vh_tree.specs.DeltaCycle.{Wires, moment_of, rises, put, process_world, process_effect, all_effects}
 use Rattle.vh_tree.specs.Bench.{signals_of, fresh, set_port, start_of, edge, given, outp_of, on_ok, read_first, readings_from, Schedule, IsSchedule, BenchInEveryOrder}
-use Rattle.vh_tree.specs.Equations.{expr_of-Literal, stmt_of-Assign, stmt_of-If, branch_of-Branch}
+use Rattle.vh_tree_equations.specs.Equations.{expr_of-Literal, stmt_of-Assign, stmt_of-If, branch_of-Branch}
 use Rattle.rw_base.specs.declared.bit.Bit9.TheVariants.{U, Zero, One}
 use Rattle.vh_tree.specs.declared.process.Process.{Process}
 use Rattle.vh_tree.specs.declared.design.Design.{Design}

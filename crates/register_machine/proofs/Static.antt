@@ -6,7 +6,7 @@ use Rattle.std.proofs.lemmas.Bool.{lt-ltb, le-leb}
 use Rattle.vh_tree.specs.Bits.{Bytes, is_among}
 use Rattle.vh_tree.specs.StaticRules as rules
 use Rattle.vh_tree.specs.StaticRules.{Names, Widths, Shape, IsStatic}
-use Rattle.vh_tree.specs.Equations as by
+use Rattle.vh_tree_equations.specs.Equations as by
 use Rattle.rw_core.specs.Bits.{tag_width}
 use Rattle.rw_core.specs.TagWidths.{tag_width-least}
 use Rattle.vh_tree.specs.declared.expr.VExpr.TheVariants.{Name, Slice, Literal}

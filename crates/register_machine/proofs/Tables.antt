@@ -5,7 +5,7 @@ use Rattle.std.proofs.Math.Nat.{pow-le-pow_right}
 use Rattle.vh_tree.specs.Bits.{Bytes, Bits}
 use Rattle.vh_tree.specs.Functions.{Calls, Store, World, held, expr_of, stmt_of, stmts_of, scope_in, value_in, function_world, function_value, calls_of}
 use Rattle.vh_tree.specs.Bench.{BenchInEveryOrder}
-use Rattle.vh_tree.specs.Equations.{expr_of-Name, expr_of-Literal, expr_of-Call, stmt_of-Assign}
+use Rattle.vh_tree_equations.specs.Equations.{expr_of-Name, expr_of-Literal, expr_of-Call, stmt_of-Assign}
 use Rattle.rw_core.specs.Bits.{tag_width}
 use Rattle.rw_core.specs.TagWidths.{tag_width-enough}
 use Rattle.rw_base.specs.declared.bit.Bit9.TheVariants.{U}

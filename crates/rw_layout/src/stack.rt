@@ -3,6 +3,7 @@ ghost use Rattle.std.specs.Prelude.{◌≡◌, ◌∷◌, [], ◌<◌, ◌^◌, 
 ghost use Rattle.std.specs.List.{slice_get, prefix_len};
 ghost use Rattle.rw_layout.specs.Layout as spec;
 ghost use Rattle.rw_layout.specs.Steps.{Gives, is_run, column_met};
+ghost use Rattle.rw_base.specs.declared.fail.Failure.TheVariants as fail;
 
 use crate::{Entry, Opener};
 use rw_base::{Fail, OutOfMemory, Place, Refusal, Rule};
@@ -171,7 +172,7 @@ impl Stack {
 
 /// The refusal by E04 at a place.
 pub fn broken_at(at: Place) -> Fail
-    ensures { result ≡ Fail.Refused (spec.broken_at at) }
+    ensures { result ≡ fail.Refused (spec.broken_at at) }
 {
     Fail::Refused(Refusal {
         rule: Rule::E04,

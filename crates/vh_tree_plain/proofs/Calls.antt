@@ -2,7 +2,7 @@
 use Rattle.std.proofs.Common.{◌≡◌, List, [], ◌∷◌, ◌++◌, map, Bool, true, false, if◌then◌else◌, refl, ap, sym, ◌∙◌}
 use Rattle.vh_tree.specs.Bits.{Bytes, Bits, same_name}
 use Rattle.vh_tree.specs.Functions.{Calls, Scope, Store, expr_of, scope_in, function_value, declared, calls_after, calls_of}
-use Rattle.vh_tree.specs.Equations.{expr_of-Call}
+use Rattle.vh_tree_equations.specs.Equations.{expr_of-Call}
 use Rattle.vh_tree.specs.declared.expr.VExpr.{VExpr}
 use Rattle.vh_tree.specs.declared.expr.VExpr.TheVariants.{Call}
 use Rattle.vh_tree.specs.declared.function.Function.{Function}

@@ -5,7 +5,7 @@ use Rattle.std.specs.List.{list_all, list_any}
 use Rattle.std.proofs.lemmas.List.Sums.{sum_by-cons}
 use Rattle.vh_tree.specs.Bits.{Bytes, same_name}
 use Rattle.vh_tree.specs.StaticRules.{assigns, breaks_drivers, driven_names, drives}
-use Rattle.vh_tree.specs.Equations.{branch_assigns}
+use Rattle.vh_tree_equations.specs.Equations.{branch_assigns}
 use Rattle.vh_tree.specs.declared.stmt.Branch.{Branch}
 use Rattle.vh_tree.specs.declared.stmt.VStmt.{VStmt}
 use Rattle.vh_tree.specs.declared.stmt.VStmt.TheVariants.{If}

@@ -4,7 +4,7 @@ use Rattle.std.specs.Prelude.{◌&&◌, ◌||◌}
 use Rattle.std.specs.List.{list_all, list_any}
 use Rattle.vh_tree.specs.Bits.{Bytes}
 use Rattle.vh_tree.specs.StaticRules.{all_true, any_true, keeps, assigns}
-use Rattle.vh_tree.specs.Equations.{branch_keeps, branch_assigns, keeps-If, assigns-If, branch_keeps-Branch, branch_assigns-Branch}
+use Rattle.vh_tree_equations.specs.Equations.{branch_keeps, branch_assigns, keeps-If, assigns-If, branch_keeps-Branch, branch_assigns-Branch}
 use Rattle.vh_tree.specs.declared.expr.VExpr.{VExpr}
 use Rattle.vh_tree.specs.declared.stmt.Test.{Test}
 use Rattle.vh_tree.specs.declared.stmt.Branch.{Branch}

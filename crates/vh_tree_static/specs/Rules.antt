@@ -1,6 +1,6 @@
 -- The static rules over what is known of names around a statement or an expression.
 use Rattle.std.specs.Prelude.{ℕ, Bool, true, not, ◌&&◌, length, is_some}
-pub use Rattle.vh_tree.specs.Equations.{branch_keeps, branch_assigns}
+pub use Rattle.vh_tree_equations.specs.Equations.{branch_keeps, branch_assigns}
 use Rattle.vh_tree.specs.Bits.{Bytes}
 use Rattle.vh_tree.specs.StaticRules.{Names, test_keeps, names_well, uses_earlier, function_uses_earlier}
 use Rattle.vh_tree.specs.declared.expr.VExpr.{VExpr}

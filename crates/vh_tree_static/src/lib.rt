@@ -8,6 +8,7 @@
 ghost use Rattle.std.specs.Prelude.{◌≡◌, Some, IsOk, IsErrOf};
 ghost use Rattle.rw_base.specs.declared.rule.VRule.{VRule};
 ghost use Rattle.vh_tree.specs.StaticRules.{IsStatic, first_broken};
+ghost use Rattle.rw_base.specs.declared.fail.Failure.TheVariants as fail;
 
 mod distinct;
 mod drivers;
@@ -30,7 +31,7 @@ use vh_tree::Design;
 /// that is, unless memory runs out (IEEE Std 1076-1993, sections 2.1, 4.3.1.2, 8.4 and 10.3).
 pub fn check_static(alloc: Global, design: &Design) -> Result<(), VFail>
     ensures ok { IsOk result → IsStatic design.now }
-    ensures refused { (rule : VRule) → IsErrOf result (VFail.Refused rule) → first_broken design.now ≡ Some rule }
+    ensures refused { (rule : VRule) → IsErrOf result (fail.Refused rule) → first_broken design.now ≡ Some rule }
 {
     if !names::names_keep(alloc, design)? {
         return Err(VFail::Refused(VRule::V4));

@@ -3,7 +3,7 @@ use Rattle.std.proofs.Common.{◌≡◌, inl, inr, ℕ, List, Bool, Result, Ok, 
 use Rattle.rw_base.specs.declared.rule.VRule.{VRule}
 use Rattle.vh_tree.specs.Bits.{Bits}
 use Rattle.vh_tree.specs.Bench.{Schedule, text_schedule}
-use Rattle.vh_tree.specs.Laws.{TextOrderLaw}
+use Rattle.vh_tree_laws.specs.Laws.{TextOrderLaw}
 use Rattle.vh_tree.specs.declared.design.Design.{Design}
 use Rattle.rw_trace.specs.Traces.{trace_of}
 use Rattle.vhdl_bench.specs.Showing.{lines_of, inputs_of, ShowsText, NeverSettles, IsAccepted, BreaksText, IsSimulated, IsShown, IsUnlessMemory}

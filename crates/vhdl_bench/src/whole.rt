@@ -11,7 +11,8 @@ use crate::bench::show;
 use rw_base::{Text, VRule};
 use rw_trace::{TraceFail, to_bits};
 use std::alloc::Global;
-use vh_tree::{Design, order_law};
+use vh_tree::Design;
+use vh_tree_laws::order_law;
 use vhdl_read::{VFail, read};
 
 // How many bytes a text has at most.

@@ -2,7 +2,7 @@
 use Rattle.std.proofs.Common.{◌≡◌, ℕ, sym, subst, Some, None, codes}
 use Rattle.vh_tree.specs.DeltaCycle.{Orders, AreOrders}
 use Rattle.vh_tree.specs.Bench.{settled, text_schedule}
-use Rattle.vh_tree.specs.Laws.{TextOrderLaw}
+use Rattle.vh_tree_laws.specs.Laws.{TextOrderLaw}
 use Rattle.vh_tree.specs.declared.design.Design.{Design}
 use Rattle.vhdl_cycle_flat.specs.Cycles.{Reaches, IsSettling}
 use Rattle.vhdl_cycle_flat.specs.Resolving.{IsResolved}

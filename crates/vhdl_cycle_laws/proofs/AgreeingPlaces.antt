@@ -8,7 +8,7 @@ use Rattle.vh_tree.specs.StaticRules.{Width, agree, width_among}
 use Rattle.vh_tree.specs.Widths.{HasWidth, StoreHasWidths}
 use Rattle.vh_tree.specs.declared.function.Var.{Var}
 use Rattle.vh_tree.specs.declared.wire.Held.{Held}
-use Rattle.vh_tree.proofs.Stores.{stored_width}
+use Rattle.vh_tree_laws.proofs.Stores.{stored_width}
 use Rattle.vhdl_cycle_flat.specs.Flat.{Frame, part_of, written}
 use Rattle.vhdl_cycle_flat.specs.Names.{slot_among, slots_of, value_over, called_over, written_at}
 use Rattle.vhdl_cycle_flat.specs.declared.slot.Slot.{Slot}

@@ -9,7 +9,7 @@ use Rattle.vh_tree.specs.declared.function.Var.{Var}
 use Rattle.vh_tree.specs.declared.process.Process.{Process as Named}
 use Rattle.vh_tree.specs.declared.wire.Moment.{Moment}
 use Rattle.vh_tree.specs.declared.design.Design.{Design}
-use Rattle.vh_tree.proofs.Comparisons.{both_right, not_false}
+use Rattle.vh_tree_laws.proofs.Comparisons.{both_right, not_false}
 use Rattle.vhdl_cycle_flat.specs.Agreeing.{AgreeingStmtsLaw}
 use Rattle.vhdl_cycle_flat.specs.Calling.{FramesGive, FramesLaw}
 use Rattle.vhdl_cycle_flat.specs.Cycles.{State, delta_of, world_of}

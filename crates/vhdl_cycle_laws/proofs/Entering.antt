@@ -10,8 +10,8 @@ use Rattle.vh_tree.specs.StaticRules.{parameter_vars, begins_with_copies}
 use Rattle.vh_tree.specs.declared.function.Var.{Var}
 use Rattle.vh_tree.specs.declared.function.Function.{Function}
 use Rattle.vh_tree.specs.declared.wire.Held.{Held}
-use Rattle.vh_tree.proofs.Copies.{enough_vars}
-use Rattle.vh_tree.proofs.Stores.{append_widths, variables_width, parameters_width}
+use Rattle.vh_tree_laws.proofs.Copies.{enough_vars}
+use Rattle.vh_tree_laws.proofs.Stores.{append_widths, variables_width, parameters_width}
 use Rattle.vhdl_cycle_flat.specs.Flat.{entered as filled}
 use Rattle.vhdl_cycle_flat.specs.Names.{total_width}
 use Rattle.vhdl_cycle_flat.specs.Resolving.{frame_vars}

@@ -6,12 +6,12 @@ use Rattle.vh_tree.specs.Bits.{Bytes, Bits, slice_of}
 use Rattle.vh_tree.specs.Functions.{Scope, expr_of}
 use Rattle.vh_tree.specs.StaticRules.{Names, Width, Widths, Shape, has_arity, all_true, agree, all_agree, arguments_agree, joined_width, is_within, names_well, uses_earlier, measured}
 use Rattle.vh_tree.specs.Widths.{HasWidth, GivesWidth, KeepsWidths}
-use Rattle.vh_tree.specs.Equations.{expr_of-Name, expr_of-Slice, expr_of-Literal, expr_of-Call, expr_of-Join, names_well-Name, names_well-Slice, names_well-Call, names_well-Join, measured-Call, measured-Join, uses_earlier-Name, uses_earlier-Call, uses_earlier-Join}
-use Rattle.vh_tree.specs.Induction.{every_expr}
+use Rattle.vh_tree_equations.specs.Equations.{expr_of-Name, expr_of-Slice, expr_of-Literal, expr_of-Call, expr_of-Join, names_well-Name, names_well-Slice, names_well-Call, names_well-Join, measured-Call, measured-Join, uses_earlier-Name, uses_earlier-Call, uses_earlier-Join}
+use Rattle.vh_tree_equations.specs.Induction.{every_expr}
 use Rattle.vh_tree.specs.declared.expr.VExpr.{VExpr}
 use Rattle.vh_tree.specs.declared.expr.VExpr.TheVariants.{Name, Slice, Literal, Call, Join}
-use Rattle.vh_tree.proofs.Comparisons.{both_left, both_right, either_cases}
-use Rattle.vh_tree.proofs.ExprWidth.{has_width}
+use Rattle.vh_tree_laws.proofs.Comparisons.{both_left, both_right, either_cases}
+use Rattle.vh_tree_laws.proofs.ExprWidth.{has_width}
 use Rattle.vhdl_cycle_flat.specs.Agreeing.{GiveTheSame, ScopesAgree}
 
 agreed : (w : Width) (n : ℕ) (value : Bits) → agree w (Some n) ≡ true → HasWidth w value → length value ≡ n

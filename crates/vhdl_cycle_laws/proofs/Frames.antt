@@ -10,8 +10,8 @@ use Rattle.vh_tree.specs.declared.function.Function.{Function}
 use Rattle.vh_tree.specs.declared.design.Item.{Item}
 use Rattle.vh_tree.specs.declared.design.Item.TheVariants.{Signal, Function as Declared}
 use Rattle.vh_tree.specs.declared.design.Design.{Design}
-use Rattle.vh_tree.proofs.Comparisons.{both_left, both_right, either_left, either_right, name_turned, not_false, not_true}
-use Rattle.vh_tree.proofs.DesignWidth.{ready}
+use Rattle.vh_tree_laws.proofs.Comparisons.{both_left, both_right, either_left, either_right, name_turned, not_false, not_true}
+use Rattle.vh_tree_laws.proofs.DesignWidth.{ready}
 use Rattle.vhdl_cycle_flat.specs.Calling.{FramesGive, FramesLaw}
 use Rattle.vhdl_cycle_flat.specs.Flat.{Frame, called, entered as filled}
 use Rattle.vhdl_cycle_flat.specs.Names.{Frames, no_frames, with_frame, called_over}

@@ -7,16 +7,16 @@ use Rattle.vh_tree.specs.Bits.{Bytes, Bits, same_name, is_among}
 use Rattle.vh_tree.specs.Functions.{Calls, Store, World, scope_in, function_world, stmt_of, stmts_of, entered, function_value, parameter_widths}
 use Rattle.vh_tree.specs.StaticRules.{Names, Widths, Shape, has_arity, arity_in, functions_of, item_names, names_of, are_distinct, begins_with_copies, names_in_function, function_names_well, stmt_names_well, names_well, measured, width_among, stmt_fits, parameter_vars, widths_in_function, is_width, function_fits, uses_earlier, stmt_uses_earlier, function_uses_earlier, copies, test_keeps}
 use Rattle.vh_tree.specs.Widths.{GivesWidth, KeepsWidths}
-use Rattle.vh_tree.specs.Equations.{names_well-Name, keeps-Assign}
+use Rattle.vh_tree_equations.specs.Equations.{names_well-Name, keeps-Assign}
 use Rattle.vh_tree.specs.declared.expr.VExpr.TheVariants.{Name}
 use Rattle.vh_tree.specs.declared.stmt.VStmt.{VStmt}
 use Rattle.vh_tree.specs.declared.function.Var.{Var}
 use Rattle.vh_tree.specs.declared.function.Function.{Function}
 use Rattle.vh_tree.specs.declared.design.Item.{Item}
-use Rattle.vh_tree.proofs.Comparisons.{both_left, both_right, both_so, either_cases, either_left, either_right, name_self, name_turned}
-use Rattle.vh_tree.proofs.Copies.{copy_is}
-use Rattle.vh_tree.proofs.Stores.{value_width, read_width, among_later, among_earlier}
-use Rattle.vh_tree.proofs.FunctionWidth.{gives_bare}
+use Rattle.vh_tree_laws.proofs.Comparisons.{both_left, both_right, both_so, either_cases, either_left, either_right, name_self, name_turned}
+use Rattle.vh_tree_laws.proofs.Copies.{copy_is}
+use Rattle.vh_tree_laws.proofs.Stores.{value_width, read_width, among_later, among_earlier}
+use Rattle.vh_tree_laws.proofs.FunctionWidth.{gives_bare}
 use Rattle.vhdl_cycle_flat.specs.Agreeing.{GiveTheSame, ScopesAgree, WorldsAgree}
 use Rattle.vhdl_cycle_flat.specs.Calling.{FramesGive}
 use Rattle.vhdl_cycle_flat.specs.Flat.{Frame, entered as filled}

@@ -6,7 +6,7 @@ use Rattle.vh_tree.specs.StaticRules.{names_of, width_among}
 use Rattle.vh_tree.specs.declared.function.Var.{Var}
 use Rattle.vhdl_cycle_flat.specs.Names.{slot_among, slots_of, total_width}
 use Rattle.vhdl_cycle_flat.specs.declared.slot.Slot.{Slot}
-use Rattle.vh_tree.proofs.Comparisons.{name_turned}
+use Rattle.vh_tree_laws.proofs.Comparisons.{name_turned}
 
 -- the first of this name has this number and this many bits, which begin there
 pub data IsAt (x : Bytes) : List Var → ℕ → ℕ → ℕ → Type 0 where

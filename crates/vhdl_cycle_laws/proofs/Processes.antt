@@ -11,7 +11,7 @@ use Rattle.vh_tree.specs.declared.function.Var.{Var}
 use Rattle.vh_tree.specs.declared.process.Process.{Process as Named}
 use Rattle.vh_tree.specs.declared.wire.Moment.{Moment}
 use Rattle.vh_tree.specs.declared.design.Design.{Design}
-use Rattle.vh_tree.proofs.Comparisons.{both_left, both_right}
+use Rattle.vh_tree_laws.proofs.Comparisons.{both_left, both_right}
 use Rattle.vhdl_cycle_flat.specs.Agreeing.{WorldsAgree, AgreeingStmtsLaw}
 use Rattle.vhdl_cycle_flat.specs.Calling.{FramesGive}
 use Rattle.vhdl_cycle_flat.specs.Delta.{Coming, in_order, drive_of, has_event, ran}

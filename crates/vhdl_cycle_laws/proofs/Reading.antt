@@ -12,7 +12,7 @@ use Rattle.vhdl_cycle_flat.specs.Flat.{Frame, part_of}
 use Rattle.vhdl_cycle_flat.specs.Names.{total_width, called_over, value_over}
 use Rattle.vhdl_cycle_flat.specs.Standing.{wires_at}
 use Rattle.vhdl_cycle_flat.specs.declared.slot.Slot.{Slot}
-use Rattle.vh_tree.proofs.Comparisons.{name_turned}
+use Rattle.vh_tree_laws.proofs.Comparisons.{name_turned}
 use Rattle.vhdl_cycle_laws.proofs.Places.{IsAt, here, later, Placed, nowhere, somewhere, slot_at}
 
 -- the values of names whose bits stand one after another

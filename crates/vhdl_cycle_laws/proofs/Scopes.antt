@@ -6,10 +6,10 @@ use Rattle.vh_tree.specs.Functions.{scope_in, calls_of}
 use Rattle.vh_tree.specs.StaticRules.{Shape, names_of, signal_names, driven_names, names_in_process, process_vars, widths_in_process, shapes_of, IsStatic}
 use Rattle.vh_tree.specs.Widths.{GivesWidth, KeepsWidths}
 use Rattle.vh_tree.specs.declared.design.Design.{Design}
-use Rattle.vh_tree.proofs.Comparisons.{either_cases, either_left, either_right}
-use Rattle.vh_tree.proofs.Stores.{value_width, read_width}
-use Rattle.vh_tree.proofs.FunctionWidth.{gives_bare}
-use Rattle.vh_tree.proofs.DesignWidth.{ready}
+use Rattle.vh_tree_laws.proofs.Comparisons.{either_cases, either_left, either_right}
+use Rattle.vh_tree_laws.proofs.Stores.{value_width, read_width}
+use Rattle.vh_tree_laws.proofs.FunctionWidth.{gives_bare}
+use Rattle.vh_tree_laws.proofs.DesignWidth.{ready}
 use Rattle.vhdl_cycle_flat.specs.Agreeing.{GiveTheSame, ScopesAgree}
 use Rattle.vhdl_cycle_flat.specs.Calling.{FramesGive}
 use Rattle.vhdl_cycle_flat.specs.Names.{Frames, slots_of, total_width, called_over, scope_over}

@@ -4,7 +4,7 @@ use Rattle.std.proofs.lemmas.Bool.{cases_lt}
 use mathlib.Core.Bool.{true≢false}
 use Rattle.vh_tree.specs.DeltaCycle.{Orders, AreOrders, delta_cycle, cycles, is_quiet as is_quiet_state}
 use Rattle.vh_tree.specs.Bench.{settled}
-use Rattle.vh_tree.specs.Laws.{OneOrderLaw, IsFirstQuiet, SettledLaw}
+use Rattle.vh_tree_laws.specs.Laws.{OneOrderLaw, IsFirstQuiet, SettledLaw}
 use Rattle.vh_tree.specs.StaticRules.{IsStatic}
 use Rattle.vh_tree.specs.declared.design.Design.{Design}
 use Rattle.vh_tree.specs.declared.wire.Settled.{Settled}

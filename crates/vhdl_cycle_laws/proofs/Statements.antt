@@ -5,16 +5,16 @@ use Rattle.vh_tree.specs.Bits.{Bytes, Bits, same_bits}
 use Rattle.vh_tree.specs.Functions.{World, Effect, Choice, expr_of, test_holds, stmt_of, branch_of, stmts_of, first_taken}
 use Rattle.vh_tree.specs.StaticRules.{Names, Width, Widths, keeps, all_true, test_keeps, names_well, uses_earlier, measured, fits_in, agree}
 use Rattle.vh_tree.specs.Widths.{HasWidth}
-use Rattle.vh_tree.specs.Equations.{stmt_of-Assign, stmt_of-If, branch_of-Branch, keeps-Assign, keeps-If, branch_keeps, branch_keeps-Branch}
-use Rattle.vh_tree.specs.Induction.{every_stmt}
+use Rattle.vh_tree_equations.specs.Equations.{stmt_of-Assign, stmt_of-If, branch_of-Branch, keeps-Assign, keeps-If, branch_keeps, branch_keeps-Branch}
+use Rattle.vh_tree_equations.specs.Induction.{every_stmt}
 use Rattle.vh_tree.specs.declared.expr.VExpr.{VExpr}
 use Rattle.vh_tree.specs.declared.stmt.Test.{Test}
 use Rattle.vh_tree.specs.declared.stmt.Test.TheVariants.{Equal, Rising, Reset}
 use Rattle.vh_tree.specs.declared.stmt.VStmt.{VStmt}
 use Rattle.vh_tree.specs.declared.stmt.VStmt.TheVariants.{Assign, If}
 use Rattle.vh_tree.specs.declared.stmt.Branch.{Branch}
-use Rattle.vh_tree.proofs.Comparisons.{both_left, both_right}
-use Rattle.vh_tree.proofs.ExprWidth.{has_width}
+use Rattle.vh_tree_laws.proofs.Comparisons.{both_left, both_right}
+use Rattle.vh_tree_laws.proofs.ExprWidth.{has_width}
 use Rattle.vhdl_cycle_flat.specs.Agreeing.{WorldsAgree, AgreeingStmtsLaw}
 use Rattle.vhdl_cycle_laws.proofs.Expressions.{agrees}
 

@@ -3,13 +3,13 @@ use Rattle.std.proofs.Common.{◌≡◌, List, [], ◌∷◌, map, Bool, true, r
 use Rattle.std.specs.List.{list_all, AllByRecursion}
 use Rattle.vh_tree.specs.Bits.{Bytes}
 use Rattle.vh_tree.specs.StaticRules.{all_true, keeps, test_keeps, uses_earlier, stmt_uses_earlier}
-use Rattle.vh_tree.specs.Equations.{uses_earlier-Name, uses_earlier-Slice, uses_earlier-Literal, uses_earlier-Call, uses_earlier-Join, keeps-Assign, keeps-If, branch_keeps, branch_keeps-Branch}
-use Rattle.vh_tree.specs.Induction.{every_expr, every_stmt}
+use Rattle.vh_tree_equations.specs.Equations.{uses_earlier-Name, uses_earlier-Slice, uses_earlier-Literal, uses_earlier-Call, uses_earlier-Join, keeps-Assign, keeps-If, branch_keeps, branch_keeps-Branch}
+use Rattle.vh_tree_equations.specs.Induction.{every_expr, every_stmt}
 use Rattle.vh_tree.specs.declared.expr.VExpr.{VExpr}
 use Rattle.vh_tree.specs.declared.stmt.Test.{Test}
 use Rattle.vh_tree.specs.declared.stmt.Test.TheVariants.{Equal, Rising, Reset}
 use Rattle.vh_tree.specs.declared.stmt.VStmt.{VStmt}
-use Rattle.vh_tree.proofs.Comparisons.{both_so}
+use Rattle.vh_tree_laws.proofs.Comparisons.{both_so}
 
 abbrev pub any : Bytes → Bool
 any x = true

@@ -12,7 +12,7 @@ ghost use Rattle.vhdl_cycle_laws.specs.Changes.{StartLaw, HasPorts, GivenLaw, Re
 mod agreeing;
 
 pub use agreeing::{agreement_law, frames_law};
-use vh_tree::{order_law, settling_law};
+use vh_tree_laws::{order_law, settling_law};
 
 /// A delta cycle over flat buffers is the design's, in the order of the text (IEEE Std 1076-1993, section 12.6.4,
 /// without time).

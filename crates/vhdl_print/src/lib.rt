@@ -19,7 +19,8 @@ mod text;
 
 use rw_base::OutOfMemory;
 use std::alloc::Global;
-use vh_tree::{Design, spellable_designs_are_spelled};
+use vh_tree::Design;
+use vh_tree_spelling::spellable_designs_are_spelled;
 
 /// The canonical text of a design: its tokens in order, in lower case, one space between two of them, but a line
 /// feed behind each `;`, `is`, `begin`, `then` and `else`. An empty `else` isn't written. The text ends with a
@@ -29,7 +30,7 @@ use vh_tree::{Design, spellable_designs_are_spelled};
 /// `vh_tree`) where the design can be spelled: its names are words of the grammar, its widths and bounds numbers
 /// that the text can say, lists that may not be empty have an element, and its `if`s and calls are nested within the
 /// bound. The static rules don't say that, since they take any bytes for a name and any depth. Each design that a
-/// reader gives can be spelled, by the law `spelled_designs_are_spellable`.
+/// reader gives can be spelled, by the law `spelled_designs_are_spellable` of `vh_tree_spelling`.
 pub fn print(alloc: Global, design: &Design) -> Result<Vec<u8>, OutOfMemory>
     ensures bytes { IfOk result (λ text. text.items ≡ canonical_text design.now) }
     ensures spells { IfOk result (λ text. IsSpellable design.now → IsSpelled text.items design.now) }

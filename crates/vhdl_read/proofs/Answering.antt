@@ -5,8 +5,8 @@ use Rattle.vh_tree.specs.declared.token.Token.{Token}
 use Rattle.vh_tree.specs.declared.design.Design.{Design}
 use Rattle.vh_tree.specs.Text.{all_allowed, IsText}
 use Rattle.vh_tree.specs.Spelling.{IsSpelled, SpellsDesign, BreaksBytes, BreaksTokens, BreaksGrammar}
-use Rattle.vh_tree.specs.Scan.{scanned}
-use Rattle.vh_tree.specs.ReadDesign.{design_of}
+use Rattle.vh_tree_reading.specs.Scan.{scanned}
+use Rattle.vh_tree_reading.specs.ReadDesign.{design_of}
 use Rattle.rw_base.specs.Answers.{VFail}
 use Rattle.rw_base.specs.declared.fail.Failure.TheVariants as fail
 use Rattle.rw_base.specs.Answers.{IsUnlessMemory}

@@ -1,7 +1,7 @@
 -- Runs of bytes of a kind.
 use Rattle.std.proofs.Common.{◌≡◌, ℕ, suc, ◌+◌, Bool, true, false, cond, List, [], ◌∷◌, take, drop, refl, ap, ◌∙◌, arith}
 use Rattle.std.specs.List.{prefix_len}
-use Rattle.vh_tree.specs.Scan.{run, behind}
+use Rattle.vh_tree_reading.specs.Scan.{run, behind}
 
 one_more : {A : Type 0} (x : A) (n : ℕ) (xs : List A) → take (1 + n) (x ∷ xs) ≡ x ∷ take n xs
 one_more x n xs = let e : 1 + n ≡ suc n = omega arith in rw e

@@ -5,7 +5,7 @@ use Rattle.rw_base.specs.Answers.{Unread}
 use Rattle.rw_base.specs.declared.fail.Failure.TheVariants as fail
 use Rattle.vh_tree.specs.declared.token.Token.{Token}
 use Rattle.rw_base.specs.Answers.{Fails}
-use Rattle.vh_tree.specs.Scan.{◌>>=◌, front, added, tokens_at, scanned, read_on, value_of}
+use Rattle.vh_tree_reading.specs.Scan.{◌>>=◌, front, added, tokens_at, scanned, read_on, value_of}
 
 abbrev pub behind_all : List Token → Option (List Token) → Option (List Token)
 behind_all before None = None

@@ -6,10 +6,10 @@ use Rattle.vh_tree.specs.declared.token.Mark.{Mark}
 use Rattle.vh_tree.specs.declared.token.Token.{Token}
 use Rattle.vh_tree.specs.declared.token.Side.{Side}
 use Rattle.rw_base.specs.Answers.{Fails}
-use Rattle.vh_tree.specs.Scan.{◌>>=◌}
-use Rattle.vh_tree.specs.Read.{Read, sees, after, separated_at, many_at, args_at, stmt_at, stmts_at, begins_stmt, choice_levels}
+use Rattle.vh_tree_reading.specs.Scan.{◌>>=◌}
+use Rattle.vh_tree_reading.specs.Read.{Read, sees, after, separated_at, many_at, args_at, stmt_at, stmts_at, begins_stmt, choice_levels}
 use Rattle.vh_tree.specs.declared.token.Mark.TheVariants as m
-use Rattle.vh_tree.specs.ReadDesign.{after_all, var_at, vars_at, param_at, param_list_at, begins_item, item_at, items_at, sensitive_at, names_at, process_at, processes_at}
+use Rattle.vh_tree_reading.specs.ReadDesign.{after_all, var_at, vars_at, param_at, param_list_at, begins_item, item_at, items_at, sensitive_at, names_at, process_at, processes_at}
 
 -- what is read from here on, behind what was read before
 abbrev pub with_front : {A : Type 0} → List A → Read (List A) → Read (List A)

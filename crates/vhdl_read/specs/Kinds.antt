@@ -2,7 +2,7 @@
 use Rattle.std.specs.Prelude.{ℕ, Bool, nat_eq, List, [], ◌∷◌, if◌then◌else◌}
 use Rattle.std.specs.Char.{is_ascii_digit}
 use Rattle.vh_tree.specs.Text.{in_word, in_line}
-use Rattle.vh_tree.specs.Scan.{is_bit}
+use Rattle.vh_tree_reading.specs.Scan.{is_bit}
 use Rattle.vh_tree.specs.declared.token.Mark.{Mark}
 use Rattle.vh_tree.specs.declared.token.Mark.TheVariants as m
 use Rattle.vhdl_read.specs.declared.class.Class.{Class}

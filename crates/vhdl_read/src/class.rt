@@ -2,7 +2,7 @@
 ghost use Rattle.std.specs.Prelude.{◌≡◌, drop};
 ghost use Rattle.std.specs.List.{prefix_len};
 ghost use Rattle.vh_tree.specs.Text as text;
-ghost use Rattle.vh_tree.specs.Scan as spec;
+ghost use Rattle.vh_tree_reading.specs.Scan as spec;
 ghost use Rattle.vhdl_read.specs.Kinds.{is_in};
 
 // What a run of bytes is of: a word, a number, a comment, or a string of the nine values.

@@ -1,6 +1,6 @@
 // Declarations of signals, variables and parameters. The grammar rule stands above each function.
 ghost use Rattle.std.specs.Prelude.{◌≡◌, IfOk, suc};
-ghost use Rattle.vh_tree.specs.ReadDesign as spec;
+ghost use Rattle.vh_tree_reading.specs.ReadDesign as spec;
 ghost use Rattle.rw_base.specs.Answers.{Gives};
 
 use crate::token::{after, after_all, id, number, rest_of, sees};
@@ -10,7 +10,7 @@ use std::alloc::Global;
 use vh_tree::{Ident, Mark, Token, Var};
 
 // `0 )`
-#[tactic(auto, unfolding(vh_tree::specs::ReadDesign::zero_at))]
+#[tactic(auto, unfolding(vh_tree_reading::specs::ReadDesign::zero_at))]
 fn zero(tokens: &[Token]) -> Result<&[Token], Unread>
     ensures { Gives (λ r. r.now) result (spec.zero_at tokens.now) }
 {
@@ -34,7 +34,7 @@ fn one_more(high: u32) -> Result<u32, OutOfMemory>
 }
 
 // vec ::= `std_logic_vector (` number `downto 0 )`
-#[tactic(auto, unfolding(vh_tree::specs::ReadDesign::vec_at))]
+#[tactic(auto, unfolding(vh_tree_reading::specs::ReadDesign::vec_at))]
 pub fn vec(tokens: &[Token]) -> Result<(u32, &[Token]), Unread>
     ensures { Gives (λ x. (x.0, x.1.now)) result (spec.vec_at tokens.now) }
 {
@@ -46,7 +46,7 @@ pub fn vec(tokens: &[Token]) -> Result<(u32, &[Token]), Unread>
 }
 
 // `signal` or `variable`, and id `:` vec `;`
-#[tactic(auto, unfolding(vh_tree::specs::ReadDesign::var_at))]
+#[tactic(auto, unfolding(vh_tree_reading::specs::ReadDesign::var_at))]
 pub fn var(alloc: Global, keyword: Mark, tokens: &[Token]) -> Result<(Var, &[Token]), Unread>
     ensures { Gives (λ x. (x.0, x.1.now)) result (spec.var_at keyword tokens.now) }
 {
@@ -76,7 +76,7 @@ fn vars(alloc: Global, tokens: &[Token]) -> Result<(Items<Var>, &[Token]), Unrea
 }
 
 // param ::= id `: std_logic_vector`
-#[tactic(auto, unfolding(vh_tree::specs::ReadDesign::param_at))]
+#[tactic(auto, unfolding(vh_tree_reading::specs::ReadDesign::param_at))]
 fn param(alloc: Global, tokens: &[Token]) -> Result<(Ident, &[Token]), Unread>
     ensures { Gives (λ x. (x.0, x.1.now)) result (spec.param_at tokens.now) }
 {
@@ -103,7 +103,7 @@ fn param_list(alloc: Global, tokens: &[Token]) -> Result<(Items<Ident>, &[Token]
 }
 
 // [`(` param (`;` param)* `)`]
-#[tactic(auto, unfolding(vh_tree::specs::ReadDesign::params_at))]
+#[tactic(auto, unfolding(vh_tree_reading::specs::ReadDesign::params_at))]
 fn params(alloc: Global, tokens: &[Token]) -> Result<(Items<Ident>, &[Token]), Unread>
     ensures { Gives (λ x. (x.0, x.1.now)) result (spec.params_at tokens.now) }
 {
@@ -117,7 +117,7 @@ fn params(alloc: Global, tokens: &[Token]) -> Result<(Items<Ident>, &[Token]), U
 }
 
 // params `return std_logic_vector is` variable* `begin`
-#[tactic(auto, unfolding(vh_tree::specs::ReadDesign::head_at))]
+#[tactic(auto, unfolding(vh_tree_reading::specs::ReadDesign::head_at))]
 pub fn head(alloc: Global, tokens: &[Token]) -> Result<(Items<Ident>, Items<Var>, &[Token]), Unread>
     ensures { Gives (λ x. ((x.0, x.1), x.2.now)) result (spec.head_at tokens.now) }
 {

@@ -1,7 +1,7 @@
 // A whole design. The grammar rule stands above each function.
 ghost use Rattle.std.specs.Prelude.{◌≡◌};
 ghost use Rattle.vh_tree.specs.VToken as mark;
-ghost use Rattle.vh_tree.specs.ReadDesign as spec;
+ghost use Rattle.vh_tree_reading.specs.ReadDesign as spec;
 ghost use Rattle.rw_base.specs.Answers.{Gives};
 
 use crate::declare::vec;
@@ -109,7 +109,7 @@ fn after_end(tokens: &[Token]) -> Result<&[Token], Unread>
 }
 
 // What stands before the declarations: the widths of `inp` and `outp`.
-#[tactic(auto, unfolding(vh_tree::specs::ReadDesign::ports_at))]
+#[tactic(auto, unfolding(vh_tree_reading::specs::ReadDesign::ports_at))]
 fn ports(tokens: &[Token]) -> Result<(u32, u32, &[Token]), Unread>
     ensures { Gives (λ x. ((x.0, x.1), x.2.now)) result (spec.ports_at tokens.now) }
 {
@@ -123,7 +123,7 @@ fn ports(tokens: &[Token]) -> Result<(u32, u32, &[Token]), Unread>
 }
 
 // The library, the entity and the head of the architecture, item* `begin` process* `end behaviour ;`
-#[tactic(auto, unfolding(vh_tree::specs::ReadDesign::design_at))]
+#[tactic(auto, unfolding(vh_tree_reading::specs::ReadDesign::design_at))]
 fn design(alloc: Global, levels: usize, tokens: &[Token]) -> Result<(Design, &[Token]), Unread>
     ensures { Gives (λ x. (x.0, x.1.now)) result (spec.design_at levels tokens.now) }
 {
@@ -144,7 +144,7 @@ fn design(alloc: Global, levels: usize, tokens: &[Token]) -> Result<(Design, &[T
 }
 
 // The design that tokens spell, all of them.
-#[tactic(auto, unfolding(vh_tree::specs::ReadDesign::design_of))]
+#[tactic(auto, unfolding(vh_tree_reading::specs::ReadDesign::design_of))]
 pub fn whole_design(alloc: Global, tokens: &[Token]) -> Result<Design, Unread>
     ensures { Gives (λ x. x) result (spec.design_of tokens.now) }
 {

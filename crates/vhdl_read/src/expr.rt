@@ -1,8 +1,8 @@
 // Expressions, by descent with one token of lookahead. The grammar rule stands above each function.
 ghost use Rattle.std.specs.Prelude.{◌≡◌, length};
 ghost use Rattle.rw_base.specs.Answers.{Gives};
-ghost use Rattle.vh_tree.specs.Read.{separated_at};
-ghost use Rattle.vh_tree.specs.Read as spec;
+ghost use Rattle.vh_tree_reading.specs.Read.{separated_at};
+ghost use Rattle.vh_tree_reading.specs.Read as spec;
 ghost use Rattle.vh_tree.specs.Grammar.{join_of};
 ghost use Rattle.vh_tree.specs.declared.token.Mark.TheVariants as m;
 
@@ -16,7 +16,7 @@ use vh_tree::{Ident, Mark, Token, VExpr};
 
 // What stands in a call's parentheses, with at most so many levels there, the call's own among them.
 #[cycle(exprs)]
-#[tactic(auto, unfolding(vh_tree::specs::Read::args_at))]
+#[tactic(auto, unfolding(vh_tree_reading::specs::Read::args_at))]
 pub fn args(
     alloc: Global,
     levels: usize,
@@ -50,7 +50,7 @@ fn exprs(alloc: Global, levels: usize, tokens: &[Token]) -> Result<(Items<VExpr>
 
 // expr ::= term (`&` term)*, with at most so many levels inside
 #[cycle(exprs)]
-#[tactic(auto, unfolding(vh_tree::specs::Read::expr_at))]
+#[tactic(auto, unfolding(vh_tree_reading::specs::Read::expr_at))]
 pub fn expr(alloc: Global, levels: usize, tokens: &[Token]) -> Result<(VExpr, &[Token]), Unread>
     ensures { Gives (λ x. (x.0, x.1.now)) result (spec.expr_at (spec.args_at levels) tokens.now) }
 {
@@ -89,7 +89,7 @@ fn terms(alloc: Global, levels: usize, tokens: &[Token]) -> Result<(Items<VExpr>
 
 // term ::= ref | string
 #[cycle(exprs)]
-#[tactic(auto, unfolding(vh_tree::specs::Read::term_at))]
+#[tactic(auto, unfolding(vh_tree_reading::specs::Read::term_at))]
 fn term(alloc: Global, levels: usize, tokens: &[Token]) -> Result<(VExpr, &[Token]), Unread>
     ensures { Gives (λ x. (x.0, x.1.now)) result (spec.term_at (spec.args_at levels) tokens.now) }
 {
@@ -102,7 +102,7 @@ fn term(alloc: Global, levels: usize, tokens: &[Token]) -> Result<(VExpr, &[Toke
 
 // ref ::= name | name `(` number `downto` number `)` | id `(` expr (`,` expr)* `)`
 #[cycle(exprs)]
-#[tactic(auto, unfolding(vh_tree::specs::Read::ref_at))]
+#[tactic(auto, unfolding(vh_tree_reading::specs::Read::ref_at))]
 pub fn reference(
     alloc: Global,
     levels: usize,
@@ -120,7 +120,7 @@ pub fn reference(
 
 // A slice or a call, behind its opening parenthesis. Only a declared name can be called.
 #[cycle(exprs)]
-#[tactic(auto, unfolding(vh_tree::specs::Read::opened_at))]
+#[tactic(auto, unfolding(vh_tree_reading::specs::Read::opened_at))]
 fn opened(
     alloc: Global,
     levels: usize,
@@ -140,7 +140,7 @@ fn opened(
 }
 
 // number `downto` number `)`
-#[tactic(auto, unfolding(vh_tree::specs::Read::slice_at))]
+#[tactic(auto, unfolding(vh_tree_reading::specs::Read::slice_at))]
 fn slice(name: Ident, tokens: &[Token]) -> Result<(VExpr, &[Token]), Unread>
     ensures { Gives (λ x. (x.0, x.1.now)) result (spec.slice_at name tokens.now) }
 {
@@ -153,7 +153,7 @@ fn slice(name: Ident, tokens: &[Token]) -> Result<(VExpr, &[Token]), Unread>
 
 // expr (`,` expr)* `)`
 #[cycle(exprs)]
-#[tactic(auto, unfolding(vh_tree::specs::Read::call_at))]
+#[tactic(auto, unfolding(vh_tree_reading::specs::Read::call_at))]
 fn call(
     alloc: Global,
     levels: usize,

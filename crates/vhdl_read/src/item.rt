@@ -1,6 +1,6 @@
 // Functions and the declarations of the architecture. The grammar rule stands above each function.
 ghost use Rattle.std.specs.Prelude.{◌≡◌};
-ghost use Rattle.vh_tree.specs.ReadDesign as spec;
+ghost use Rattle.vh_tree_reading.specs.ReadDesign as spec;
 ghost use Rattle.rw_base.specs.Answers.{Gives};
 
 use crate::declare::{head, var};
@@ -13,7 +13,7 @@ use std::alloc::Global;
 use vh_tree::{Function, Ident, Item, Mark, Side, Token, VExpr, VStmt};
 
 // `; end` id `;`, for this id
-#[tactic(auto, unfolding(vh_tree::specs::ReadDesign::end_at))]
+#[tactic(auto, unfolding(vh_tree_reading::specs::ReadDesign::end_at))]
 fn end<'a>(name: &Ident, tokens: &'a [Token]) -> Result<&'a [Token], Unread>
     ensures { Gives (λ r. r.now) result (spec.end_at name.now tokens.now) }
 {
@@ -28,7 +28,7 @@ fn end<'a>(name: &Ident, tokens: &'a [Token]) -> Result<&'a [Token], Unread>
 }
 
 // stmt* `return` expr `; end` id `;`, for this id
-#[tactic(auto, unfolding(vh_tree::specs::ReadDesign::tail_at))]
+#[tactic(auto, unfolding(vh_tree_reading::specs::ReadDesign::tail_at))]
 fn tail<'a>(
     alloc: Global,
     levels: usize,
@@ -45,7 +45,7 @@ fn tail<'a>(
 }
 
 // function ::= `function` id params `return std_logic_vector is` variable* `begin` stmt* `return` expr `; end` id `;`
-#[tactic(auto, unfolding(vh_tree::specs::ReadDesign::function_at))]
+#[tactic(auto, unfolding(vh_tree_reading::specs::ReadDesign::function_at))]
 fn function(alloc: Global, levels: usize, tokens: &[Token]) -> Result<(Function, &[Token]), Unread>
     ensures { Gives (λ x. (x.0, x.1.now)) result (spec.function_at levels tokens.now) }
 {
@@ -66,7 +66,7 @@ fn function(alloc: Global, levels: usize, tokens: &[Token]) -> Result<(Function,
 }
 
 // item ::= `signal` id `:` vec `;` | function
-#[tactic(auto, unfolding(vh_tree::specs::ReadDesign::item_at))]
+#[tactic(auto, unfolding(vh_tree_reading::specs::ReadDesign::item_at))]
 fn item(alloc: Global, levels: usize, tokens: &[Token]) -> Result<(Item, &[Token]), Unread>
     ensures { Gives (λ x. (x.0, x.1.now)) result (spec.item_at levels tokens.now) }
 {

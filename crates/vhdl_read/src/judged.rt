@@ -15,10 +15,9 @@ ghost use Rattle.vhdl_read.specs.Reading.{IsFirstBroken, IsJudgment};
 use crate::spelled::read_spelled;
 use rw_base::VFail;
 use std::alloc::Global;
-use vh_tree::{
-    Design, first_broken_law, one_design_for_a_text, spellable_designs_are_spelled,
-    tokens_are_scanned,
-};
+use vh_tree::Design;
+use vh_tree_reading::{first_broken_law, one_design_for_a_text, tokens_are_scanned};
+use vh_tree_spelling::spellable_designs_are_spelled;
 use vh_tree_static::check_static;
 
 // Read, then checked.
@@ -43,9 +42,9 @@ pub fn read(alloc: Global, bytes: &[u8]) -> Result<Design, VFail>
     // What is read is spelled, and the static rules hold of it.
     ensures ok { IfOk result (λ design. IsSpelled bytes.now design × IsStatic design) }
     // A rule that is named is the first one broken.
-    ensures refused { (rule : VRule) → IsErrOf result (VFail.Refused rule) → IsFirstBroken bytes.now rule }
+    ensures refused { (rule : VRule) → IsErrOf result (fail.Refused rule) → IsFirstBroken bytes.now rule }
     // Memory is asked for only where all bytes are allowed.
-    ensures memory { IsErrOf result VFail.OutOfMemory → all_allowed bytes.now ≡ true }
+    ensures memory { IsErrOf result fail.OutOfMemory → all_allowed bytes.now ≡ true }
     // What is spelled and static is read, unless memory runs out.
     ensures spelled { (design : Design) → IsSpelled bytes.now design → IsStatic design → IsUnlessMemory (Ok design) result }
     // The first rule that is broken is named, unless memory runs out; V1 is judged without memory.

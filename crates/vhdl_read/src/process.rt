@@ -1,6 +1,6 @@
 // Processes. The grammar rule stands above each function.
 ghost use Rattle.std.specs.Prelude.{◌≡◌};
-ghost use Rattle.vh_tree.specs.ReadDesign as spec;
+ghost use Rattle.vh_tree_reading.specs.ReadDesign as spec;
 ghost use Rattle.rw_base.specs.Answers.{Gives};
 
 use crate::stmt::stmts;
@@ -11,7 +11,7 @@ use std::alloc::Global;
 use vh_tree::{Ident, Mark, Process, Side, Token};
 
 // sens ::= id | `clk` | `rst` | `inp`
-#[tactic(auto, unfolding(vh_tree::specs::ReadDesign::sensitive_at))]
+#[tactic(auto, unfolding(vh_tree_reading::specs::ReadDesign::sensitive_at))]
 fn sensitive(alloc: Global, tokens: &[Token]) -> Result<(Ident, &[Token]), Unread>
     ensures { Gives (λ x. (x.0, x.1.now)) result (spec.sensitive_at tokens.now) }
 {
@@ -42,7 +42,7 @@ fn names(alloc: Global, tokens: &[Token]) -> Result<(Items<Ident>, &[Token]), Un
 }
 
 // process ::= `process (` sens (`,` sens)* `) begin` stmt* `end process ;`
-#[tactic(auto, unfolding(vh_tree::specs::ReadDesign::process_at))]
+#[tactic(auto, unfolding(vh_tree_reading::specs::ReadDesign::process_at))]
 fn process(alloc: Global, levels: usize, tokens: &[Token]) -> Result<(Process, &[Token]), Unread>
     ensures { Gives (λ x. (x.0, x.1.now)) result (spec.process_at levels tokens.now) }
 {

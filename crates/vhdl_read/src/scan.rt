@@ -3,7 +3,7 @@ ghost use Rattle.std.specs.Prelude.{◌≡◌, ◌↔◌, List, length, map, Som
 ghost use Rattle.rw_base.specs.declared.bit.Bit9.{Bit9};
 ghost use Rattle.vh_tree.specs.declared.token.Token.{Token};
 ghost use Rattle.vh_tree.specs.Text.{IsText};
-ghost use Rattle.vh_tree.specs.Scan as spec;
+ghost use Rattle.vh_tree_reading.specs.Scan as spec;
 ghost use Rattle.rw_base.specs.Answers.{Gives};
 ghost use Rattle.rw_base.specs.declared.fail.Failure.TheVariants as fail;
 
@@ -12,7 +12,8 @@ use crate::word::{number, single, word_token};
 use rw_base::{Bit9, NotSpelled, Unread};
 use sqlite_items::Items;
 use std::alloc::{AllocError, Global};
-use vh_tree::{Mark, Token, tokens_are_scanned};
+use vh_tree::{Mark, Token};
+use vh_tree_reading::tokens_are_scanned;
 
 // The value that a letter shows.
 fn bit(b: u8) -> Bit9
@@ -50,7 +51,7 @@ fn bits(alloc: Global, letters: &[u8]) -> Result<Items<Bit9>, Unread>
 }
 
 // What stands behind a quote.
-#[tactic(auto, unfolding(vh_tree::specs::Scan::string_at))]
+#[tactic(auto, unfolding(vh_tree_reading::specs::Scan::string_at))]
 fn string(alloc: Global, text: &[u8]) -> Result<(Option<Token>, &[u8]), Unread>
     ensures { Gives (λ x. (x.0, x.1.now)) result (spec.string_at text.now) }
 {
@@ -62,7 +63,7 @@ fn string(alloc: Global, text: &[u8]) -> Result<(Option<Token>, &[u8]), Unread>
 }
 
 // The symbol that begins with b.
-#[tactic(auto, unfolding(vh_tree::specs::Scan::symbol_at))]
+#[tactic(auto, unfolding(vh_tree_reading::specs::Scan::symbol_at))]
 fn symbol(b: u8, rest: &[u8]) -> Result<(Mark, &[u8]), Unread>
     ensures { Gives (λ x. (x.0, x.1.now)) result (spec.symbol_at b rest.now) }
 {
@@ -82,7 +83,7 @@ fn symbol(b: u8, rest: &[u8]) -> Result<(Mark, &[u8]), Unread>
 }
 
 // A token or a gap, and what is behind it.
-#[tactic(auto, unfolding(vh_tree::specs::Scan::front))]
+#[tactic(auto, unfolding(vh_tree_reading::specs::Scan::front))]
 fn front(alloc: Global, text: &[u8]) -> Result<(Option<Token>, &[u8]), Unread>
     ensures { Gives (λ x. (x.0, x.1.now)) result (spec.front text.now) }
 {
@@ -121,7 +122,7 @@ fn add(all: &mut Items<Token>, one: Option<Token>) -> Result<(), AllocError>
 }
 
 // All tokens, by as many turns as there are bytes at most.
-#[tactic(auto, unfolding(vh_tree::specs::Scan::scanned))]
+#[tactic(auto, unfolding(vh_tree_reading::specs::Scan::scanned))]
 pub fn scan(alloc: Global, text: &[u8]) -> Result<Items<Token>, Unread>
     ensures { Gives (λ x. x) result (spec.scanned text.now) }
 {

@@ -13,7 +13,8 @@ use crate::design::whole_design;
 use crate::scan::scan;
 use rw_base::{Unread, VFail, VRule};
 use std::alloc::Global;
-use vh_tree::{Design, designs_are_read, one_design_for_a_text, tokens_are_scanned};
+use vh_tree::Design;
+use vh_tree_reading::{designs_are_read, one_design_for_a_text, tokens_are_scanned};
 
 // V1 is kept: every byte may stand in a text.
 fn all_allowed(bytes: &[u8]) -> bool

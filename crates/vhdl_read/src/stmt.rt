@@ -1,8 +1,8 @@
 // Statements, by descent with one token of lookahead. The grammar rule stands above each function.
 ghost use Rattle.std.specs.Prelude.{◌≡◌, length};
 ghost use Rattle.rw_base.specs.Answers.{Gives};
-ghost use Rattle.vh_tree.specs.Read.{separated_at};
-ghost use Rattle.vh_tree.specs.Read as spec;
+ghost use Rattle.vh_tree_reading.specs.Read.{separated_at};
+ghost use Rattle.vh_tree_reading.specs.Read as spec;
 ghost use Rattle.vh_tree.specs.VToken as mark;
 ghost use Rattle.vh_tree.specs.declared.token.Mark.TheVariants as m;
 
@@ -53,7 +53,7 @@ fn begins_stmt(at: Side, tokens: &[Token]) -> bool
 
 // stmt*, with at most so many levels inside
 #[cycle(stmts)]
-#[tactic(auto, unfolding(vh_tree::specs::Read::stmts_at))]
+#[tactic(auto, unfolding(vh_tree_reading::specs::Read::stmts_at))]
 pub fn stmts(
     alloc: Global,
     at: Side,
@@ -77,7 +77,7 @@ pub fn stmts(
 
 // stmt ::= assignment | `if` choice
 #[cycle(stmts)]
-#[tactic(auto, unfolding(vh_tree::specs::Read::stmt_at))]
+#[tactic(auto, unfolding(vh_tree_reading::specs::Read::stmt_at))]
 fn stmt(
     alloc: Global,
     at: Side,
@@ -95,7 +95,7 @@ fn stmt(
 }
 
 // assignment ::= target `:=` expr `;` in a function, target `<=` expr `;` in a process
-#[tactic(auto, unfolding(vh_tree::specs::Read::assign_at))]
+#[tactic(auto, unfolding(vh_tree_reading::specs::Read::assign_at))]
 fn assignment(
     alloc: Global,
     at: Side,
@@ -113,7 +113,7 @@ fn assignment(
 
 // What stands behind an `if`, with at most so many levels there, its own among them.
 #[cycle(stmts)]
-#[tactic(auto, unfolding(vh_tree::specs::Read::choice_levels))]
+#[tactic(auto, unfolding(vh_tree_reading::specs::Read::choice_levels))]
 fn choice(
     alloc: Global,
     at: Side,
@@ -130,7 +130,7 @@ fn choice(
 
 // choice ::= branch (`elsif` branch)* [`else` stmt*] `end if ;`
 #[cycle(stmts)]
-#[tactic(auto, unfolding(vh_tree::specs::Read::choice_at))]
+#[tactic(auto, unfolding(vh_tree_reading::specs::Read::choice_at))]
 fn choice_within(
     alloc: Global,
     at: Side,
@@ -149,7 +149,7 @@ fn choice_within(
 
 // [`else` stmt*]
 #[cycle(stmts)]
-#[tactic(auto, unfolding(vh_tree::specs::Read::else_at))]
+#[tactic(auto, unfolding(vh_tree_reading::specs::Read::else_at))]
 fn other(
     alloc: Global,
     at: Side,
@@ -190,7 +190,7 @@ fn branches(
 
 // branch ::= test (`and` test)* `then` stmt*
 #[cycle(stmts)]
-#[tactic(auto, unfolding(vh_tree::specs::Read::branch_at))]
+#[tactic(auto, unfolding(vh_tree_reading::specs::Read::branch_at))]
 fn branch(
     alloc: Global,
     at: Side,
@@ -223,7 +223,7 @@ fn tests(alloc: Global, levels: usize, tokens: &[Token]) -> Result<(Items<Test>,
 }
 
 // test ::= ref `=` string | `rising_edge ( clk )` | `rst = '1'`
-#[tactic(auto, unfolding(vh_tree::specs::Read::test_at))]
+#[tactic(auto, unfolding(vh_tree_reading::specs::Read::test_at))]
 fn test(alloc: Global, levels: usize, tokens: &[Token]) -> Result<(Test, &[Token]), Unread>
     ensures { Gives (λ x. (x.0, x.1.now)) result (spec.test_at (spec.args_at levels) tokens.now) }
 {
@@ -237,7 +237,7 @@ fn test(alloc: Global, levels: usize, tokens: &[Token]) -> Result<(Test, &[Token
 }
 
 // `rising_edge ( clk )`
-#[tactic(auto, unfolding(vh_tree::specs::Read::rising_at))]
+#[tactic(auto, unfolding(vh_tree_reading::specs::Read::rising_at))]
 fn rising(tokens: &[Token]) -> Result<(Test, &[Token]), Unread>
     ensures { Gives (λ x. (x.0, x.1.now)) result (spec.rising_at tokens.now) }
 {
@@ -249,7 +249,7 @@ fn rising(tokens: &[Token]) -> Result<(Test, &[Token]), Unread>
 }
 
 // `rst = '1'`
-#[tactic(auto, unfolding(vh_tree::specs::Read::reset_at))]
+#[tactic(auto, unfolding(vh_tree_reading::specs::Read::reset_at))]
 fn reset(tokens: &[Token]) -> Result<(Test, &[Token]), Unread>
     ensures { Gives (λ x. (x.0, x.1.now)) result (spec.reset_at tokens.now) }
 {
@@ -260,7 +260,7 @@ fn reset(tokens: &[Token]) -> Result<(Test, &[Token]), Unread>
 }
 
 // ref `=` string
-#[tactic(auto, unfolding(vh_tree::specs::Read::equal_at))]
+#[tactic(auto, unfolding(vh_tree_reading::specs::Read::equal_at))]
 fn equal(alloc: Global, levels: usize, tokens: &[Token]) -> Result<(Test, &[Token]), Unread>
     ensures { Gives (λ x. (x.0, x.1.now)) result (spec.equal_at (spec.args_at levels) tokens.now) }
 {

@@ -1,7 +1,7 @@
 // Tokens one by one, from the front of a list.
 ghost use Rattle.std.specs.Prelude.{◌≡◌, drop, IfOk};
-ghost use Rattle.vh_tree.specs.Read as reads;
-ghost use Rattle.vh_tree.specs.ReadDesign as designs;
+ghost use Rattle.vh_tree_reading.specs.Read as reads;
+ghost use Rattle.vh_tree_reading.specs.ReadDesign as designs;
 ghost use Rattle.rw_base.specs.Answers.{Gives};
 
 use rw_base::{Bit9, NotSpelled, OutOfMemory, Unread};
@@ -9,7 +9,7 @@ use sqlite_items::Items;
 use std::alloc::Global;
 use vh_tree::{Ident, Mark, Token};
 
-#[tactic(auto, unfolding(vh_tree::specs::Read::same_mark))]
+#[tactic(auto, unfolding(vh_tree_reading::specs::Read::same_mark))]
 fn same_mark(a: Mark, b: Mark) -> bool
     ensures { result ≡ reads.same_mark a b }
 {
@@ -37,7 +37,7 @@ pub fn rest_of(tokens: &[Token]) -> &[Token]
 }
 
 // The tokens after a mark.
-#[tactic(auto, unfolding(vh_tree::specs::Read::after))]
+#[tactic(auto, unfolding(vh_tree_reading::specs::Read::after))]
 pub fn after(tokens: &[Token], wanted: Mark) -> Result<&[Token], Unread>
     ensures { Gives (λ r. r.now) result (reads.after wanted tokens.now) }
 {

@@ -3,7 +3,7 @@ ghost use Rattle.std.specs.Prelude.{◌≡◌, [], ◌∷◌, map};
 ghost use Rattle.std.specs.List.{list_any};
 ghost use Rattle.std.specs.Char.{is_ascii_digit as digit, is_ascii_uppercase, to_ascii_lowercase};
 ghost use Rattle.vh_tree.specs.Text as text;
-ghost use Rattle.vh_tree.specs.Scan as spec;
+ghost use Rattle.vh_tree_reading.specs.Scan as spec;
 ghost use Rattle.rw_base.specs.Answers.{Gives};
 ghost use Rattle.vhdl_read.specs.Kinds.{words_from};
 
@@ -117,7 +117,7 @@ fn single_underscores(word: &[u8]) -> bool
 }
 
 // A word in lower case, as a token.
-#[tactic(auto, unfolding(vh_tree::specs::Scan::word_token))]
+#[tactic(auto, unfolding(vh_tree_reading::specs::Scan::word_token))]
 fn low_word(alloc: Global, word: &[u8]) -> Result<Token, Unread>
     ensures { Gives (λ x. x) result (spec.word_token word.now) }
 {
@@ -148,7 +148,7 @@ pub fn word_token(alloc: Global, word: &[u8]) -> Result<Token, Unread>
 }
 
 // The value of digits, if it is at most 2,147,483,647.
-#[tactic(auto, unfolding(vh_tree::specs::Scan::value_of))]
+#[tactic(auto, unfolding(vh_tree_reading::specs::Scan::value_of))]
 fn number_value(digits: &[u8]) -> Option<u32>
     ensures { result ≡ spec.value_of digits.now }
 {
@@ -164,7 +164,7 @@ fn number_value(digits: &[u8]) -> Option<u32>
 }
 
 // The number that digits spell, without a leading zero.
-#[tactic(auto, unfolding(vh_tree::specs::Scan::number_of))]
+#[tactic(auto, unfolding(vh_tree_reading::specs::Scan::number_of))]
 pub fn number(digits: &[u8]) -> Result<u32, Unread>
     ensures { Gives (λ x. x) result (spec.number_of digits.now) }
 {

@@ -8,8 +8,8 @@ ghost use Rattle.vh_tree.specs.declared.stmt.Test.TheVariants as c;
 ghost use Rattle.vh_tree.specs.declared.stmt.VStmt.TheVariants as s;
 ghost use Rattle.vh_tree.specs.Text.{IsText};
 ghost use Rattle.vh_tree.specs.Spelling.{IsSpelled};
-ghost use Rattle.vh_tree.specs.Scan.{scanned};
-ghost use Rattle.vh_tree.specs.ReadDesign.{read_text};
+ghost use Rattle.vh_tree_reading.specs.Scan.{scanned};
+ghost use Rattle.vh_tree_reading.specs.ReadDesign.{read_text};
 
 /// Case, gaps, the longest run, and a comment to the end.
 pub fn tokens_of_a_line()

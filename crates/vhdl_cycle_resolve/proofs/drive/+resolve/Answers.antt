@@ -2,7 +2,7 @@
 use Rattle.std.proofs.Common.{arith, ◌≡◌, ◌+◌, ◌++◌, List, [], ◌∷◌, map, take, sym, ap, ◌∙◌, subst}
 use Rattle.std.proofs.lemmas.Grind.{common_steps}
 use Rattle.vh_tree.specs.Functions.{Choice, test_holds, stmt_of as stmt_means, stmts_of as stmts_mean, branch_of as branch_means}
-use Rattle.vh_tree.specs.Equations.{stmt_of-If, branch_of-Branch}
+use Rattle.vh_tree_equations.specs.Equations.{stmt_of-If, branch_of-Branch}
 use Rattle.vh_tree.specs.declared.stmt.VStmt.{VStmt}
 use Rattle.vh_tree.specs.declared.stmt.Branch.{Branch}
 use Rattle.vh_tree.specs.declared.stmt.Test.{Test}

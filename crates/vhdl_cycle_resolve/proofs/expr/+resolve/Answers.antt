@@ -3,7 +3,7 @@ use Rattle.std.proofs.Common.{List, map, sym, ap, ◌∙◌}
 use Rattle.std.specs.List.{flat_map}
 use Rattle.vh_tree.specs.Bits.{Bits}
 use Rattle.vh_tree.specs.Functions.{Scope, expr_of as means}
-use Rattle.vh_tree.specs.Equations.{expr_of-Call, expr_of-Literal}
+use Rattle.vh_tree_equations.specs.Equations.{expr_of-Call, expr_of-Literal}
 use Rattle.vh_tree.specs.declared.expr.VExpr.{VExpr}
 use Rattle.vhdl_cycle_flat.specs.Flat.{expr_of, joined}
 use Rattle.vhdl_cycle_flat.specs.Names.{called_over, scope_over}

@@ -3,7 +3,7 @@ use Rattle.std.proofs.Common.{arith, ◌≡◌, ◌+◌, ◌++◌, List, [], ◌
 use Rattle.std.proofs.lemmas.Grind.{common_steps}
 use Rattle.vh_tree.specs.Bits.{Bits}
 use Rattle.vh_tree.specs.Functions.{Choice, stmt_of as stmt_means, stmts_of as stmts_mean, branch_of as branch_means}
-use Rattle.vh_tree.specs.Equations.{stmt_of-If}
+use Rattle.vh_tree_equations.specs.Equations.{stmt_of-If}
 use Rattle.vh_tree.specs.declared.stmt.VStmt.{VStmt}
 use Rattle.vh_tree.specs.declared.stmt.Branch.{Branch}
 use Rattle.vhdl_cycle_flat.specs.Flat.{Effect, Taken, stmt_of, branch_of, in_order, room_in_order, room_first}

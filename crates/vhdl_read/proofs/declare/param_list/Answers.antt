@@ -1,7 +1,7 @@
 use Rattle.std.proofs.Common.{rules, ◌≡◌, length, ◌+◌, ◌-◌, true, false, drop, ap, sym, ◌∙◌, arith, Some}
 use Rattle.std.proofs.lemmas.Result.{err_from_is_err_and}
-use Rattle.vh_tree.specs.Read.{sees, separated_at}
-use Rattle.vh_tree.specs.ReadDesign.{param_at}
+use Rattle.vh_tree_reading.specs.Read.{sees, separated_at}
+use Rattle.vh_tree_reading.specs.ReadDesign.{param_at}
 use Rattle.vh_tree.specs.declared.token.Mark.TheVariants as m
 use Rattle.rw_base.proofs.Answers.{fails_on}
 use Rattle.vhdl_read.proofs.Turns.{with_front, separated_last, separated_step, separated_fail, separated_none, param_list_turns}

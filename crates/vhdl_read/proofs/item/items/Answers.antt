@@ -1,7 +1,7 @@
 use Rattle.std.proofs.Common.{rules, ◌≡◌, length, ◌+◌, ◌-◌, true, false, ap, sym, ◌∙◌, arith, ◌⊎◌, inl, inr}
 use Rattle.std.proofs.lemmas.Result.{err_from_is_err_and}
-use Rattle.vh_tree.specs.Read.{many_at}
-use Rattle.vh_tree.specs.ReadDesign.{begins_item, item_at}
+use Rattle.vh_tree_reading.specs.Read.{many_at}
+use Rattle.vh_tree_reading.specs.ReadDesign.{begins_item, item_at}
 use Rattle.rw_base.proofs.Answers.{fails_on}
 use Rattle.vhdl_read.proofs.Turns.{with_front, many_step, many_fail, many_done, items_turns}
 use Rattle.vhdl_read.proofs.item.items.Goals as goal

@@ -1,6 +1,6 @@
 use Rattle.std.proofs.Common.{◌≡◌, length, ◌-◌}
-use Rattle.vh_tree.specs.Read.{many_at}
-use Rattle.vh_tree.specs.ReadDesign.{begins_item, item_at}
+use Rattle.vh_tree_reading.specs.Read.{many_at}
+use Rattle.vh_tree_reading.specs.ReadDesign.{begins_item, item_at}
 use Rattle.vhdl_read.proofs.Turns.{with_front}
 use Rattle.vhdl_read.proofs.item.items.Given as goal
 

@@ -1,6 +1,6 @@
 use Rattle.std.proofs.Common.{◌≡◌, length, ◌-◌}
-use Rattle.vh_tree.specs.Read.{separated_at}
-use Rattle.vh_tree.specs.ReadDesign.{sensitive_at}
+use Rattle.vh_tree_reading.specs.Read.{separated_at}
+use Rattle.vh_tree_reading.specs.ReadDesign.{sensitive_at}
 use Rattle.vh_tree.specs.declared.token.Mark.TheVariants as m
 use Rattle.vhdl_read.proofs.Turns.{with_front}
 use Rattle.vhdl_read.proofs.process.names.Given as goal

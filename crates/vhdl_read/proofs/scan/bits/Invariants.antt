@@ -1,5 +1,5 @@
 use Rattle.std.proofs.Common.{◌≡◌, take, map}
-use Rattle.vh_tree.specs.Scan.{bit_at}
+use Rattle.vh_tree_reading.specs.Scan.{bit_at}
 use Rattle.vhdl_read.proofs.scan.bits.Given as goal
 
 abbrev pub invariant-loop-b : goal.invariant-loop-b

@@ -1,7 +1,7 @@
 use Rattle.std.proofs.Common.{rules, ◌≡◌, ◌+◌, ◌-◌, ◌<◌, ◌++◌, [], length, sym, ap, ◌∙◌, arith}
 use Rattle.std.proofs.lemmas.Result.{err_from_is_err_and}
 use Rattle.std.proofs.lemmas.Grind.{common_steps}
-use Rattle.vh_tree.specs.Scan.{front, added, tokens_at}
+use Rattle.vh_tree_reading.specs.Scan.{front, added, tokens_at}
 use Rattle.rw_base.proofs.Answers.{fails_on}
 use Rattle.vhdl_read.proofs.Scanning.{behind_all, scan_step, scan_fail, scan_end, scan_none, scan_turns}
 use Rattle.vhdl_read.proofs.scan.scan.Goals as goal

@@ -1,5 +1,5 @@
 use Rattle.std.proofs.Common.{◌≡◌, ◌-◌, length}
-use Rattle.vh_tree.specs.Scan.{tokens_at}
+use Rattle.vh_tree_reading.specs.Scan.{tokens_at}
 use Rattle.vhdl_read.proofs.Scanning.{behind_all}
 use Rattle.vhdl_read.proofs.scan.scan.Given as goal
 

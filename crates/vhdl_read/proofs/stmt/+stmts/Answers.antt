@@ -1,7 +1,7 @@
 use Rattle.std.proofs.Common.{rules, ◌≡◌, length, ◌+◌, ◌-◌, true, false, drop, ap, sym, ◌∙◌, arith, Some, ◌⊎◌, inl, inr}
 use Rattle.std.proofs.lemmas.Result.{err_from_is_err_and}
-use Rattle.vh_tree.specs.Read.{sees, separated_at, many_at}
-use Rattle.vh_tree.specs.Read.{args_at, branch_at, stmts_at, stmt_at, choice_levels, begins_stmt}
+use Rattle.vh_tree_reading.specs.Read.{sees, separated_at, many_at}
+use Rattle.vh_tree_reading.specs.Read.{args_at, branch_at, stmts_at, stmt_at, choice_levels, begins_stmt}
 use Rattle.vh_tree.specs.declared.token.Mark.TheVariants as m
 use Rattle.rw_base.proofs.Answers.{fails_on}
 use Rattle.vhdl_read.proofs.Turns.{with_front, separated_last, separated_step, separated_fail, separated_none, many_step, many_fail, many_done}

@@ -1,6 +1,6 @@
 use Rattle.std.proofs.Common.{◌≡◌, length, ◌+◌, ◌-◌, ◌*◌}
-use Rattle.vh_tree.specs.Read.{separated_at, many_at}
-use Rattle.vh_tree.specs.Read.{args_at, branch_at, stmts_at, stmt_at, choice_levels, begins_stmt}
+use Rattle.vh_tree_reading.specs.Read.{separated_at, many_at}
+use Rattle.vh_tree_reading.specs.Read.{args_at, branch_at, stmts_at, stmt_at, choice_levels, begins_stmt}
 use Rattle.vh_tree.specs.declared.token.Mark.TheVariants as m
 use Rattle.vhdl_read.proofs.Turns.{with_front}
 use Rattle.vhdl_read.proofs.stmt.+stmts.Given as goal

@@ -1,5 +1,5 @@
 use Rattle.std.proofs.Common.{◌≡◌, drop}
-use Rattle.vh_tree.specs.ReadDesign.{after_all}
+use Rattle.vh_tree_reading.specs.ReadDesign.{after_all}
 use Rattle.vhdl_read.proofs.token.after_all.Given as goal
 
 abbrev pub invariant-loop-mark : goal.invariant-loop-mark

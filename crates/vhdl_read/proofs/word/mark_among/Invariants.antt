@@ -1,5 +1,5 @@
 use Rattle.std.proofs.Common.{◌≡◌, drop}
-use Rattle.vh_tree.specs.Scan.{mark_in}
+use Rattle.vh_tree_reading.specs.Scan.{mark_in}
 use Rattle.vhdl_read.proofs.word.mark_among.Given as goal
 
 abbrev pub invariant-loop-mark : goal.invariant-loop-mark

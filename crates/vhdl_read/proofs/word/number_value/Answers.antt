@@ -1,5 +1,5 @@
 use Rattle.std.proofs.Common.{◌+◌, ◌*◌, drop, sym, ap, ◌∙◌}
-use Rattle.vh_tree.specs.Scan.{read_on}
+use Rattle.vh_tree_reading.specs.Scan.{read_on}
 use Rattle.vhdl_read.proofs.Scanning.{too_large, next_digit}
 use Rattle.vhdl_read.proofs.word.number_value.Goals as goal
 

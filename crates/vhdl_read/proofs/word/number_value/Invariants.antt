@@ -1,5 +1,5 @@
 use Rattle.std.proofs.Common.{◌≡◌, ◌≤◌, drop}
-use Rattle.vh_tree.specs.Scan.{read_on}
+use Rattle.vh_tree_reading.specs.Scan.{read_on}
 use Rattle.vhdl_read.proofs.word.number_value.Given as goal
 
 abbrev pub invariant-loop-b : goal.invariant-loop-b

@@ -4,8 +4,8 @@ use Rattle.std.specs.Prelude.{codes}
 use Rattle.rw_base.specs.declared.bit.Bit9.TheVariants.{One, X}
 use Rattle.vh_tree.specs.declared.token.Mark.TheVariants as m
 use Rattle.vh_tree.specs.declared.token.Token.TheVariants as t
-use Rattle.vh_tree.specs.Scan.{scanned, tokens_at, front, string_at, symbol_at, word_token, number_of, value_of}
-use Rattle.vh_tree.proofs.ScanComplete.{scanned_sound}
+use Rattle.vh_tree_reading.specs.Scan.{scanned, tokens_at, front, string_at, symbol_at, word_token, number_of, value_of}
+use Rattle.vh_tree_reading.proofs.ScanComplete.{scanned_sound}
 use Rattle.vhdl_worked.proofs.texts.tokens_of_a_line.Goals as goal
 
 pub returns-clause-spelled : goal.returns-clause-spelled

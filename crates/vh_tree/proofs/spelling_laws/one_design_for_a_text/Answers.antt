@@ -1,6 +1,0 @@
--- Both are what reading gives.
-use Rattle.vh_tree.proofs.ReadWhole.{one_design}
-use Rattle.vh_tree.proofs.spelling_laws.one_design_for_a_text.Goals as goal
-
-pub returns : goal.returns
-returns c = one_design
