@@ -60,7 +60,7 @@ module _ (sound loads saves puts : Type 0) (old new : Option Files) (before afte
     kept = λ _ _. same;
     shown = λ e. absurd (cc);
     shown_part = λ e. absurd (cc);
-    out_kept = λ _ _. quiet
+    out_kept = λ _ _. quiet;
   }
 
   pub of_check : (file : List ℕ) → (s ≡ status.ReadFault → loads) → (sound → IfTold (HoldsAll (files_of (Some (Check file)))) old → s ≢ status.ReadFault) → s ≢ status.WriteFault → new ≡ old → after ≡ before
@@ -83,7 +83,7 @@ module _ (sound loads saves puts : Type 0) (old new : Option Files) (before afte
     kept = λ _ _. same;
     shown = λ e. ([], told_all (Prints (Some (Check file)) []) old (λ _. refl), subst (Told (Appended []) before) (sym quiet) (nothing_put before));
     shown_part = λ e. absurd (no_write e);
-    out_kept = λ _ _. quiet
+    out_kept = λ _ _. quiet;
   }
 
   pub of_compile : (file target : List ℕ) → (s ≡ status.ReadFault → loads) → (sound → IfTold (HoldsAll (files_of (Some (Compile file target)))) old → s ≢ status.ReadFault) → (s ≡ status.WriteFault → saves)
@@ -107,7 +107,7 @@ module _ (sound loads saves puts : Type 0) (old new : Option Files) (before afte
     kept = kept;
     shown = λ e. ([], told_all (Prints (Some (Compile file target)) []) old (λ _. refl), subst (Told (Appended []) before) (sym quiet) (nothing_put before));
     shown_part = λ e. ([], told_all (Prints (Some (Compile file target)) []) old (λ _. refl), subst (Told (AppendedPrefix []) before) (sym quiet) (no_prefix_put before));
-    out_kept = λ _ _. quiet
+    out_kept = λ _ _. quiet;
   }
 
   pub of_sim : (vhdl trace : List ℕ) → (s ≡ status.ReadFault → loads) → (sound → IfTold (HoldsAll (files_of (Some (Sim vhdl trace)))) old → s ≢ status.ReadFault) → (s ≡ status.WriteFault → puts) → new ≡ old
@@ -131,9 +131,8 @@ module _ (sound loads saves puts : Type 0) (old new : Option Files) (before afte
     kept = λ _ _. same;
     shown = shown;
     shown_part = part;
-    out_kept = quiet
+    out_kept = quiet;
   }
-
 
 -- the line changes a status to want of memory at most, and neither Ok nor a write fault
 module _ (command : Option Command) (sound loads saves puts : Type 0) (old new : Option Files) (before after : Option (List ℕ)) where
@@ -154,7 +153,7 @@ module _ (command : Option Command) (sound loads saves puts : Type 0) (old new :
     kept = λ p q. a.kept (λ e. p (still_ok e)) (λ e. q (still_write e));
     shown = λ e. absurd (cc);
     shown_part = λ e. absurd (cc);
-    out_kept = λ p q. a.out_kept (λ e. p (still_ok e)) (λ e. q (still_write e))
+    out_kept = λ p q. a.out_kept (λ e. p (still_ok e)) (λ e. q (still_write e));
   }
 
   pub after_line : (given s : Status) → (s ≡ given) ⊎ (s ≡ status.OutOfMemory) → (given ≡ status.Ok → s ≡ status.Ok) → (given ≡ status.WriteFault → s ≡ status.WriteFault)

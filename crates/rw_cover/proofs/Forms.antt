@@ -4,6 +4,7 @@ use Rattle.rw_base.specs.declared.place.Place.{Place}
 use Rattle.rw_base.specs.declared.fail.OutOfMemory.{OutOfMemory}
 use Rattle.rw_scope_rules.specs.declared.binding.Bound.{Bound}
 use Rattle.rw_scope_rules.specs.Nodes.{expression_node, binding_node, statement_node, clauses_of}
+use Rattle.rw_tree.specs.Views.{itself}
 use Rattle.rw_tree.specs.declared.pattern.Pat.{Pat}
 use Rattle.rw_tree.specs.declared.types.Written.{Written}
 use Rattle.rw_tree.specs.declared.expr.Expr.{Expr}
@@ -44,99 +45,99 @@ clauses-parts (c ∷ cs) = ap (λ (ds : List (Alternative Bound)). c ∷ ds) (cl
 
 module _ (counts : List ℕ) (known : Known) where
   -- no clauses
-  pub no_clauses : (cs : List (Alt Bound)) → length cs ≡ 0 → IsFirst (clauses_group counts known (map (alternative_of (λ a. a)) cs)) None
+  pub no_clauses : (cs : List (Alt Bound)) → length cs ≡ 0 → IsFirst (clauses_group counts known (map (alternative_of itself) cs)) None
   no_clauses [] h = no_groups
   no_clauses (c ∷ cs) h = absurd (let more : suc (length cs) ≡ 0 = h in omega arith)
 
   -- the clauses of a function
   pub clauses_first : (cs rest : List (Alt Bound)) (c : Alt Bound) (covered : Bool) (first : Option Place) → cs ≡ c ∷ rest
-      → Decides covered (counted_rows counts known (map (alternative_of (λ a. a)) cs)) → first ≡ (if covered then None else Some c.at.span.first)
-      → IsFirst (clauses_group counts known (map (alternative_of (λ a. a)) cs)) first
+      → Decides covered (counted_rows counts known (map (alternative_of itself) cs)) → first ≡ (if covered then None else Some c.at.span.first)
+      → IsFirst (clauses_group counts known (map (alternative_of itself) cs)) first
   clauses_first cs rest c covered first e d f =
-      let rows = counted_rows counts known (map (alternative_of (λ a. a)) cs) in
-      let parts = alternative-parts (λ a. a) c in
-      told (clauses_group counts known (map (alternative_of (λ a. a)) cs)) (record { place = c.at.span.first; rows = rows }) covered first
-      (ap (λ (xs : List (Alt Bound)). clauses_group counts known (map (alternative_of (λ a. a)) xs)) e
-      ∙ ap (λ (x : Alternative Bound). clauses_group counts known (x ∷ map (alternative_of (λ a. a)) rest)) parts
+      let rows = counted_rows counts known (map (alternative_of itself) cs) in
+      let parts = alternative-parts itself c in
+      told (clauses_group counts known (map (alternative_of itself) cs)) (record { place = c.at.span.first; rows = rows }) covered first
+      (ap (λ (xs : List (Alt Bound)). clauses_group counts known (map (alternative_of itself) xs)) e
+      ∙ ap (λ (x : Alternative Bound). clauses_group counts known (x ∷ map (alternative_of itself) rest)) parts
       ∙ ap (λ (r : List (List PlainPattern)). let g : Group = record { place = c.at.span.first; rows = r } in g ∷ [])
-      (sym (ap (λ (x : Alternative Bound). counted_rows counts known (x ∷ map (alternative_of (λ a. a)) rest)) parts)
-      ∙ sym (ap (λ (xs : List (Alt Bound)). counted_rows counts known (map (alternative_of (λ a. a)) xs)) e)))
+      (sym (ap (λ (x : Alternative Bound). counted_rows counts known (x ∷ map (alternative_of itself) rest)) parts)
+      ∙ sym (ap (λ (xs : List (Alt Bound)). counted_rows counts known (map (alternative_of itself) xs)) e)))
       d f
 
   -- a `case`
   pub case_first : (t : Expr Bound) (a : Bound) (x : Expr Bound) (rows slice : List (Alt Bound)) (covered : Bool) (first : Option Place) → t ≡ expr.Case a x rows → slice ≡ rows
-      → Decides covered (counted_rows counts known (map (alternative_of (λ a. a)) slice)) → first ≡ (if covered then None else Some a.span.first)
-      → IsFirst (node_group counts known (expression_node (expression (λ a. a) t))) first
+      → Decides covered (counted_rows counts known (map (alternative_of itself) slice)) → first ≡ (if covered then None else Some a.span.first)
+      → IsFirst (node_group counts known (expression_node (expression itself t))) first
   case_first t a x rows slice covered first e s d f =
-      told (node_group counts known (expression_node (expression (λ a. a) t))) (record { place = a.span.first; rows = counted_rows counts known (map (alternative_of (λ a. a)) slice) }) covered first
-      (ap (λ (u : Expr Bound). node_group counts known (expression_node (expression (λ a. a) u))) e
-      ∙ ap (λ u. node_group counts known (expression_node u)) (expression-Case (λ a. a) a x rows)
+      told (node_group counts known (expression_node (expression itself t))) (record { place = a.span.first; rows = counted_rows counts known (map (alternative_of itself) slice) }) covered first
+      (ap (λ (u : Expr Bound). node_group counts known (expression_node (expression itself u))) e
+      ∙ ap (λ u. node_group counts known (expression_node u)) (expression-Case itself a x rows)
       ∙ ap (λ (cs : List (Alternative Bound)). let g : Group = record { place = a.span.first; rows = counted_rows counts known cs } in g ∷ [])
-      (clauses-parts (map (alternative_of (λ a. a)) rows) ∙ sym (ap (λ (xs : List (Alt Bound)). map (alternative_of (λ a. a)) xs) s)))
+      (clauses-parts (map (alternative_of itself) rows) ∙ sym (ap (λ (xs : List (Alt Bound)). map (alternative_of itself) xs) s)))
       d f
 
   -- a lambda
   pub lambda_first : (t : Expr Bound) (a : Bound) (pats slice : List (Pat Bound)) (x : Expr Bound) (covered : Bool) (first : Option Place) → t ≡ expr.Lambda a pats x → slice ≡ pats
-      → Decides covered (matrix_row counts (patterns (λ a. a) slice) ∷ []) → first ≡ (if covered then None else Some a.span.first)
-      → IsFirst (node_group counts known (expression_node (expression (λ a. a) t))) first
+      → Decides covered (matrix_row counts (patterns itself slice) ∷ []) → first ≡ (if covered then None else Some a.span.first)
+      → IsFirst (node_group counts known (expression_node (expression itself t))) first
   lambda_first t a pats slice x covered first e s d f =
-      told (node_group counts known (expression_node (expression (λ a. a) t))) (record { place = a.span.first; rows = matrix_row counts (patterns (λ a. a) slice) ∷ [] }) covered first
-      (ap (λ (u : Expr Bound). node_group counts known (expression_node (expression (λ a. a) u))) e
-      ∙ ap (λ u. node_group counts known (expression_node u)) (expression-Lambda (λ a. a) a pats x)
-      ∙ ap (λ (ps : List (Pat Bound)). let g : Group = record { place = a.span.first; rows = matrix_row counts (patterns (λ a. a) ps) ∷ [] } in g ∷ []) (sym s))
+      told (node_group counts known (expression_node (expression itself t))) (record { place = a.span.first; rows = matrix_row counts (patterns itself slice) ∷ [] }) covered first
+      (ap (λ (u : Expr Bound). node_group counts known (expression_node (expression itself u))) e
+      ∙ ap (λ u. node_group counts known (expression_node u)) (expression-Lambda itself a pats x)
+      ∙ ap (λ (ps : List (Pat Bound)). let g : Group = record { place = a.span.first; rows = matrix_row counts (patterns itself ps) ∷ [] } in g ∷ []) (sym s))
       d f
 
   -- another expression
-  pub expression_is : (t u : Expr Bound) (e : Expression Bound) → t ≡ u → expression (λ a. a) u ≡ e → node_group counts known (expression_node e) ≡ [] → node_group counts known (expression_node (expression (λ a. a) t)) ≡ []
+  pub expression_is : (t u : Expr Bound) (e : Expression Bound) → t ≡ u → expression itself u ≡ e → node_group counts known (expression_node e) ≡ [] → node_group counts known (expression_node (expression itself t)) ≡ []
   expression_is t u e same form none =
-      ap (λ (v : Expr Bound). node_group counts known (expression_node (expression (λ a. a) v))) same ∙ ap (λ (v : Expression Bound). node_group counts known (expression_node v)) form ∙ none
+      ap (λ (v : Expr Bound). node_group counts known (expression_node (expression itself v))) same ∙ ap (λ (v : Expression Bound). node_group counts known (expression_node v)) form ∙ none
 
   -- a local function
   pub local_is : (t : Local Bound) (a : Bound) (n : List ℕ) (rows slice : List (Alt Bound)) → t ≡ local.Fun a n rows → slice ≡ rows
-      → clauses_group counts known (map (alternative_of (λ a. a)) slice) ≡ node_group counts known (binding_node (local_binding (λ a. a) t))
+      → clauses_group counts known (map (alternative_of itself) slice) ≡ node_group counts known (binding_node (local_binding itself t))
   local_is t a n rows slice e s =
-      ap (λ (xs : List (Alt Bound)). clauses_group counts known (map (alternative_of (λ a. a)) xs)) s
-      ∙ ap (clauses_group counts known) (sym (clauses-parts (map (alternative_of (λ a. a)) rows)))
-      ∙ sym (ap (λ (u : Local Bound). node_group counts known (binding_node (local_binding (λ a. a) u))) e
-      ∙ ap (λ u. node_group counts known (binding_node u)) (local_binding-Fun (λ a. a) a n rows))
+      ap (λ (xs : List (Alt Bound)). clauses_group counts known (map (alternative_of itself) xs)) s
+      ∙ ap (clauses_group counts known) (sym (clauses-parts (map (alternative_of itself) rows)))
+      ∙ sym (ap (λ (u : Local Bound). node_group counts known (binding_node (local_binding itself u))) e
+      ∙ ap (λ u. node_group counts known (binding_node u)) (local_binding-Fun itself a n rows))
 
   -- a pattern binding
   pub binding_first : (t : Local Bound) (a : Bound) (row : Alt Bound) (slice : List (Alt Bound)) (covered : Bool) (first : Option Place) → t ≡ local.Pattern a row → slice ≡ row ∷ []
-      → Decides covered (counted_rows counts known (map (alternative_of (λ a. a)) slice)) → first ≡ (if covered then None else Some a.span.first)
-      → IsFirst (node_group counts known (binding_node (local_binding (λ a. a) t))) first
+      → Decides covered (counted_rows counts known (map (alternative_of itself) slice)) → first ≡ (if covered then None else Some a.span.first)
+      → IsFirst (node_group counts known (binding_node (local_binding itself t))) first
   binding_first t a row slice covered first e s d f =
-      told (node_group counts known (binding_node (local_binding (λ a. a) t))) (record { place = a.span.first; rows = counted_rows counts known (map (alternative_of (λ a. a)) slice) }) covered first
-      (ap (λ (u : Local Bound). node_group counts known (binding_node (local_binding (λ a. a) u))) e
-      ∙ ap (λ u. node_group counts known (binding_node u)) (local_binding-Pattern (λ a. a) a row)
+      told (node_group counts known (binding_node (local_binding itself t))) (record { place = a.span.first; rows = counted_rows counts known (map (alternative_of itself) slice) }) covered first
+      (ap (λ (u : Local Bound). node_group counts known (binding_node (local_binding itself u))) e
+      ∙ ap (λ u. node_group counts known (binding_node u)) (local_binding-Pattern itself a row)
       ∙ ap (λ (r : List (List PlainPattern)). let g : Group = record { place = a.span.first; rows = r } in g ∷ [])
-      (sym (append-nil (counted_row counts known (alternative_of (λ a. a) row)))
-      ∙ sym (ap (λ (xs : List (Alt Bound)). counted_rows counts known (map (alternative_of (λ a. a)) xs)) s)))
+      (sym (append-nil (counted_row counts known (alternative_of itself row)))
+      ∙ sym (ap (λ (xs : List (Alt Bound)). counted_rows counts known (map (alternative_of itself) xs)) s)))
       d f
 
   -- a local signature
-  pub signature_is : (t : Local Bound) (a : Bound) (n : List ℕ) (w : Written) → t ≡ local.Sig a n w → node_group counts known (binding_node (local_binding (λ a. a) t)) ≡ []
+  pub signature_is : (t : Local Bound) (a : Bound) (n : List ℕ) (w : Written) → t ≡ local.Sig a n w → node_group counts known (binding_node (local_binding itself t)) ≡ []
   signature_is t a n w e =
-      ap (λ (u : Local Bound). node_group counts known (binding_node (local_binding (λ a. a) u))) e
-      ∙ ap (λ u. node_group counts known (binding_node u)) (local_binding-Sig (λ a. a) a n w)
+      ap (λ (u : Local Bound). node_group counts known (binding_node (local_binding itself u))) e
+      ∙ ap (λ u. node_group counts known (binding_node u)) (local_binding-Sig itself a n w)
 
   -- a `let` in a `do`, and an expression alone
-  pub let_is : (t : Stmt Bound) (a : Bound) (ls : List (Local Bound)) → t ≡ stmt.Let a ls → node_group counts known (statement_node (statement (λ a. a) t)) ≡ []
+  pub let_is : (t : Stmt Bound) (a : Bound) (ls : List (Local Bound)) → t ≡ stmt.Let a ls → node_group counts known (statement_node (statement itself t)) ≡ []
   let_is t a ls e =
-      ap (λ (u : Stmt Bound). node_group counts known (statement_node (statement (λ a. a) u))) e
-      ∙ ap (λ u. node_group counts known (statement_node u)) (statement-Let (λ a. a) a ls)
+      ap (λ (u : Stmt Bound). node_group counts known (statement_node (statement itself u))) e
+      ∙ ap (λ u. node_group counts known (statement_node u)) (statement-Let itself a ls)
 
-  pub run_is : (t : Stmt Bound) (a : Bound) (x : Expr Bound) → t ≡ stmt.Run a x → node_group counts known (statement_node (statement (λ a. a) t)) ≡ []
+  pub run_is : (t : Stmt Bound) (a : Bound) (x : Expr Bound) → t ≡ stmt.Run a x → node_group counts known (statement_node (statement itself t)) ≡ []
   run_is t a x e =
-      ap (λ (u : Stmt Bound). node_group counts known (statement_node (statement (λ a. a) u))) e
-      ∙ ap (λ u. node_group counts known (statement_node u)) (statement-Run (λ a. a) a x)
+      ap (λ (u : Stmt Bound). node_group counts known (statement_node (statement itself u))) e
+      ∙ ap (λ u. node_group counts known (statement_node u)) (statement-Run itself a x)
 
   -- a `<-`
   pub statement_first : (t : Stmt Bound) (a : Bound) (p : Pat Bound) (x : Expr Bound) (slice : List (Pat Bound)) (covered : Bool) (first : Option Place) → t ≡ stmt.Bind a p x → slice ≡ p ∷ []
-      → Decides covered (matrix_row counts (patterns (λ a. a) slice) ∷ []) → first ≡ (if covered then None else Some a.span.first)
-      → IsFirst (node_group counts known (statement_node (statement (λ a. a) t))) first
+      → Decides covered (matrix_row counts (patterns itself slice) ∷ []) → first ≡ (if covered then None else Some a.span.first)
+      → IsFirst (node_group counts known (statement_node (statement itself t))) first
   statement_first t a p x slice covered first e s d f =
-      told (node_group counts known (statement_node (statement (λ a. a) t))) (record { place = a.span.first; rows = matrix_row counts (patterns (λ a. a) slice) ∷ [] }) covered first
-      (ap (λ (u : Stmt Bound). node_group counts known (statement_node (statement (λ a. a) u))) e
-      ∙ ap (λ u. node_group counts known (statement_node u)) (statement-Bind (λ a. a) a p x)
-      ∙ ap (λ (ps : List (Pat Bound)). let g : Group = record { place = a.span.first; rows = matrix_row counts (patterns (λ a. a) ps) ∷ [] } in g ∷ []) (sym s))
+      told (node_group counts known (statement_node (statement itself t))) (record { place = a.span.first; rows = matrix_row counts (patterns itself slice) ∷ [] }) covered first
+      (ap (λ (u : Stmt Bound). node_group counts known (statement_node (statement itself u))) e
+      ∙ ap (λ u. node_group counts known (statement_node u)) (statement-Bind itself a p x)
+      ∙ ap (λ (ps : List (Pat Bound)). let g : Group = record { place = a.span.first; rows = matrix_row counts (patterns itself ps) ∷ [] } in g ∷ []) (sym s))
       d f

@@ -5,6 +5,7 @@ use Rattle.rw_scope_rules.specs.declared.binding.Binding.{Binding}
 use Rattle.rw_scope_rules.specs.declared.binding.Bound.{Bound}
 use Rattle.rw_scope_rules.specs.Names.{Bytes, same_name, first_named}
 use Rattle.rw_scope_rules.specs.Bindings.{declared_by, placed_constructors}
+use Rattle.rw_tree.specs.Views.{itself}
 use Rattle.rw_tree.specs.declared.decl.Constructor.{Constructor}
 use Rattle.rw_tree.specs.declared.decl.Decl.{Decl}
 use Rattle.rw_tree.specs.Declarations.{Declaration, declaration, plain_constructor}
@@ -38,16 +39,16 @@ nothing (Some v) h = absurd (cc)
 
 module _ (declared : ℕ → Declaration Bound → List (Bytes × Binding)) (x : Bytes) (at : ℕ) (ds : List (Decl Bound)) (d : Decl Bound) (within : at < length ds) (here : d ≡ get_or ds at d) where
   abbrev left_from : ℕ → Option Binding
-  left_from n = first_named x (declared_by declared n (map (declaration (λ a. a)) (drop n ds)))
+  left_from n = first_named x (declared_by declared n (map (declaration itself) (drop n ds)))
 
-  behind : left_from at ≡ first_named x (declared at (declaration (λ a. a) d) ++ declared_by declared (at + 1) (map (declaration (λ a. a)) (drop (at + 1) ds)))
+  behind : left_from at ≡ first_named x (declared at (declaration itself d) ++ declared_by declared (at + 1) (map (declaration itself) (drop (at + 1) ds)))
   behind = rw (drop-cons ds at d, ← here, add-one) refl
 
   -- a declaration that doesn't declare the name
-  pub declaration_passed : (found : Option Binding) → found ≡ first_named x (declared at (declaration (λ a. a) d)) → false ≡ is_some found → left_from at ≡ left_from (at + 1)
-  declaration_passed found is none = behind ∙ behind_none x (declared at (declaration (λ a. a) d)) (declared_by declared (at + 1) (map (declaration (λ a. a)) (drop (at + 1) ds))) (sym is ∙ nothing found none)
+  pub declaration_passed : (found : Option Binding) → found ≡ first_named x (declared at (declaration itself d)) → false ≡ is_some found → left_from at ≡ left_from (at + 1)
+  declaration_passed found is none = behind ∙ behind_none x (declared at (declaration itself d)) (declared_by declared (at + 1) (map (declaration itself) (drop (at + 1) ds))) (sym is ∙ nothing found none)
 
   -- one that does
-  pub declaration_found : (found : Option Binding) → found ≡ first_named x (declared at (declaration (λ a. a) d)) → true ≡ is_some found → found ≡ left_from at
+  pub declaration_found : (found : Option Binding) → found ≡ first_named x (declared at (declaration itself d)) → true ≡ is_some found → found ≡ left_from at
   declaration_found found is some =
-      is ∙ sym (behind ∙ behind_some x (declared at (declaration (λ a. a) d)) (declared_by declared (at + 1) (map (declaration (λ a. a)) (drop (at + 1) ds))) (subst IsSome is (sym some)))
+      is ∙ sym (behind ∙ behind_some x (declared at (declaration itself d)) (declared_by declared (at + 1) (map (declaration itself) (drop (at + 1) ds))) (subst IsSome is (sym some)))

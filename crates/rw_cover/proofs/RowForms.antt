@@ -3,6 +3,7 @@ use Rattle.std.proofs.Common.{◌≡◌, ◌∙◌, ℕ, suc, zero, ◌-◌, ◌
 use Rattle.std.specs.Bool.{◌==◌}
 use Rattle.rw_scope_rules.specs.declared.binding.Bound.{Bound}
 use Rattle.rw_cover.specs.declared.known.Known.{Known}
+use Rattle.rw_tree.specs.Views.{itself}
 use Rattle.rw_tree.specs.declared.pattern.Pat.{Pat}
 use Rattle.rw_tree.specs.declared.pattern.Pat.TheVariants as pat
 use Rattle.rw_tree.specs.declared.clause.Guard.{Guard}
@@ -24,25 +25,25 @@ parts_plain : (counts : List ℕ) (ps : List (TreePattern Bound)) → matrix_par
 parts_plain counts [] = refl
 parts_plain counts (p ∷ ps) = ap (λ x. more_patterns (matrix_pattern counts p) x) (parts_plain counts ps)
 
-pub con_is : (counts : List ℕ) (p : Pat Bound) (a : Bound) (x : List ℕ) (parts slice : List (Pat Bound)) (row : List Pattern) (made : Pattern) → p ≡ pat.Con a x parts → slice ≡ parts → plain_row row ≡ matrix_row counts (patterns (λ a. a) slice) → plain made ≡ built_by counts a.bound (pattern_parts (plain_row row)) → plain made ≡ matrix_pattern counts (pattern (λ a. a) p)
+pub con_is : (counts : List ℕ) (p : Pat Bound) (a : Bound) (x : List ℕ) (parts slice : List (Pat Bound)) (row : List Pattern) (made : Pattern) → p ≡ pat.Con a x parts → slice ≡ parts → plain_row row ≡ matrix_row counts (patterns itself slice) → plain made ≡ built_by counts a.bound (pattern_parts (plain_row row)) → plain made ≡ matrix_pattern counts (pattern itself p)
 con_is counts p a x parts slice row made e s r m =
     m
-    ∙ ap (λ q. built_by counts a.bound (pattern_parts q)) (r ∙ ap (λ q. matrix_row counts (patterns (λ a. a) q)) s)
-    ∙ ap (built_by counts a.bound) (sym (parts_plain counts (patterns (λ a. a) parts)))
-    ∙ sym (ap (λ q. matrix_pattern counts (pattern (λ a. a) q)) e ∙ ap (matrix_pattern counts) (pattern-Con (λ a. a) a x parts))
+    ∙ ap (λ q. built_by counts a.bound (pattern_parts q)) (r ∙ ap (λ q. matrix_row counts (patterns itself q)) s)
+    ∙ ap (built_by counts a.bound) (sym (parts_plain counts (patterns itself parts)))
+    ∙ sym (ap (λ q. matrix_pattern counts (pattern itself q)) e ∙ ap (matrix_pattern counts) (pattern-Con itself a x parts))
 
-pub tuple_is : (counts : List ℕ) (p : Pat Bound) (a : Bound) (parts slice : List (Pat Bound)) (row : List Pattern) → p ≡ pat.Tuple a parts → slice ≡ parts → plain_row row ≡ matrix_row counts (patterns (λ a. a) slice) → plain (cell.Con 0 1 row) ≡ matrix_pattern counts (pattern (λ a. a) p)
+pub tuple_is : (counts : List ℕ) (p : Pat Bound) (a : Bound) (parts slice : List (Pat Bound)) (row : List Pattern) → p ≡ pat.Tuple a parts → slice ≡ parts → plain_row row ≡ matrix_row counts (patterns itself slice) → plain (cell.Con 0 1 row) ≡ matrix_pattern counts (pattern itself p)
 tuple_is counts p a parts slice row e s r =
     plain-Con 0 1 row
-    ∙ ap (λ q. constructed 0 1 (pattern_parts q)) (r ∙ ap (λ q. matrix_row counts (patterns (λ a. a) q)) s)
-    ∙ ap (constructed 0 1) (sym (parts_plain counts (patterns (λ a. a) parts)))
-    ∙ sym (ap (λ q. matrix_pattern counts (pattern (λ a. a) q)) e ∙ ap (matrix_pattern counts) (pattern-Tuple (λ a. a) a parts))
+    ∙ ap (λ q. constructed 0 1 (pattern_parts q)) (r ∙ ap (λ q. matrix_row counts (patterns itself q)) s)
+    ∙ ap (constructed 0 1) (sym (parts_plain counts (patterns itself parts)))
+    ∙ sym (ap (λ q. matrix_pattern counts (pattern itself q)) e ∙ ap (matrix_pattern counts) (pattern-Tuple itself a parts))
 
 -- == Guards ==
 
-pub last_at : (known : Known) (guards : List (Guard Bound)) (n : ℕ) (g : Guard Bound) → length guards ≡ suc n → g ≡ get_or guards n g → last_holds known (body_parts (map (guarded (λ a. a)) guards)) ≡ always_holds known (expression (λ a. a) g.test)
+pub last_at : (known : Known) (guards : List (Guard Bound)) (n : ℕ) (g : Guard Bound) → length guards ≡ suc n → g ≡ get_or guards n g → last_holds known (body_parts (map (guarded itself) guards)) ≡ always_holds known (expression itself g.test)
 last_at known [] n g h e = absurd (omega arith)
-last_at known (x ∷ []) zero g h e = ap (λ b. always_holds known (test_of b)) (guarded-parts (λ a. a) x) ∙ ap (λ y. always_holds known (expression (λ a. a) y.test)) (sym e)
+last_at known (x ∷ []) zero g h e = ap (λ b. always_holds known (test_of b)) (guarded-parts itself x) ∙ ap (λ y. always_holds known (expression itself y.test)) (sym e)
 last_at known (x ∷ []) (suc n) g h e = absurd (omega arith)
 last_at known (x ∷ y ∷ guards) zero g h e = absurd (omega arith)
 last_at known (x ∷ y ∷ guards) (suc n) g h e = last_at known (y ∷ guards) n g (omega arith) e
@@ -51,14 +52,14 @@ some_length : (n : ℕ) → false ≡ (n == 0) → 0 < n
 some_length zero h = absurd (let f : false ≡ true = h in cc)
 some_length (suc n) h = omega arith
 
-pub total_is : (known : Known) (r : Rhs Bound) (guards slice : List (Guard Bound)) (g : Guard Bound) (b : Bool) → r ≡ rhs.Guarded guards → slice ≡ guards → false ≡ (length slice == 0) → g ≡ get_or slice (length slice - 1) g → b ≡ always_holds known (expression (λ a. a) (get_or slice (length slice - 1) g).test) → b ≡ is_total known (right_side (λ a. a) r)
+pub total_is : (known : Known) (r : Rhs Bound) (guards slice : List (Guard Bound)) (g : Guard Bound) (b : Bool) → r ≡ rhs.Guarded guards → slice ≡ guards → false ≡ (length slice == 0) → g ≡ get_or slice (length slice - 1) g → b ≡ always_holds known (expression itself (get_or slice (length slice - 1) g).test) → b ≡ is_total known (right_side itself r)
 total_is known r guards slice g b e s some at holds =
     let n = some_length (length slice) some in
     holds
-    ∙ ap (λ (x : Guard Bound). always_holds known (expression (λ a. a) x.test)) (sym at)
+    ∙ ap (λ (x : Guard Bound). always_holds known (expression itself x.test)) (sym at)
     ∙ sym (last_at known slice (length slice - 1) g (omega arith) at)
-    ∙ ap (λ x. last_holds known (body_parts (map (guarded (λ a. a)) x))) s
-    ∙ sym (ap (λ x. is_total known (right_side (λ a. a) x)) e ∙ ap (is_total known) (right_side-Guarded (λ a. a) guards))
+    ∙ ap (λ x. last_holds known (body_parts (map (guarded itself) x))) s
+    ∙ sym (ap (λ x. is_total known (right_side itself x)) e ∙ ap (is_total known) (right_side-Guarded itself guards))
 
 -- == Rows ==
 

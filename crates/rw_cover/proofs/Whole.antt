@@ -5,6 +5,7 @@ use Rattle.rw_base.specs.declared.place.Place.{Place}
 use Rattle.rw_scope_rules.specs.declared.binding.Bound.{Bound}
 use Rattle.rw_scope_rules.specs.Names.{earliest}
 use Rattle.rw_scope_rules.specs.Nodes.{Node, declaration_nodes}
+use Rattle.rw_tree.specs.Views.{itself}
 use Rattle.rw_tree.specs.declared.decl.Decl.{Decl}
 use Rattle.rw_tree.specs.Declarations.{declaration, Declaration, import_declaration, data_declaration, fixity_declaration, signature_declaration, function_declaration}
 use Rattle.rw_cover.specs.declared.known.Known.{Known}
@@ -71,19 +72,19 @@ module _ (counts : List ℕ) (known : Known) where
 
 -- the same, as the code finds it
 pub whole_first : (decls slice : List (Decl Bound)) (counts counts_of_own counts_of_nodes : List ℕ) (known : Known) (nodes : List (Node Bound)) (one other first : Option Place)
-    → slice ≡ decls → counts ≡ counts_of (map (declaration (λ a. a)) slice) → counts_of_own ≡ counts → counts_of_nodes ≡ counts
-    → known ≡ known_of (map (declaration (λ a. a)) slice) → nodes ≡ flat_map declaration_nodes (map (declaration (λ a. a)) decls)
-    → IsFirst (flat_map (own_groups counts_of_own known) (map (declaration (λ a. a)) slice)) one → IsFirst (flat_map (node_group counts_of_nodes known) nodes) other → first ≡ sooner one other
-    → IsFirst (flat_map (declaration_groups (counts_of (map (declaration (λ a. a)) decls)) (known_of (map (declaration (λ a. a)) decls))) (map (declaration (λ a. a)) decls)) first
+    → slice ≡ decls → counts ≡ counts_of (map (declaration itself) slice) → counts_of_own ≡ counts → counts_of_nodes ≡ counts
+    → known ≡ known_of (map (declaration itself) slice) → nodes ≡ flat_map declaration_nodes (map (declaration itself) decls)
+    → IsFirst (flat_map (own_groups counts_of_own known) (map (declaration itself) slice)) one → IsFirst (flat_map (node_group counts_of_nodes known) nodes) other → first ≡ sooner one other
+    → IsFirst (flat_map (declaration_groups (counts_of (map (declaration itself) decls)) (known_of (map (declaration itself) decls))) (map (declaration itself) decls)) first
 whole_first decls slice counts counts_of_own counts_of_nodes known nodes one other first s c own_c nodes_c k n h i f =
-    let ds : List (Declaration Bound) = map (declaration (λ a. a)) decls in
-    let same : map (declaration (λ a. a)) slice ≡ ds = ap (map (declaration (λ a. a))) s in
+    let ds : List (Declaration Bound) = map (declaration itself) decls in
+    let same : map (declaration itself) slice ≡ ds = ap (map (declaration itself)) s in
     let own_counts : counts_of_own ≡ counts_of ds = own_c ∙ c ∙ ap counts_of same in
     let node_counts : counts_of_nodes ≡ counts_of ds = nodes_c ∙ c ∙ ap counts_of same in
     let knows : known ≡ known_of ds = k ∙ ap known_of same in
-    let own_is : flat_map (own_groups counts_of_own known) (map (declaration (λ a. a)) slice) ≡ flat_map (own_groups (counts_of ds) (known_of ds)) ds =
-    ap (λ (xs : List ℕ). flat_map (own_groups xs known) (map (declaration (λ a. a)) slice)) own_counts
-    ∙ ap (λ (x : Known). flat_map (own_groups (counts_of ds) x) (map (declaration (λ a. a)) slice)) knows
+    let own_is : flat_map (own_groups counts_of_own known) (map (declaration itself) slice) ≡ flat_map (own_groups (counts_of ds) (known_of ds)) ds =
+    ap (λ (xs : List ℕ). flat_map (own_groups xs known) (map (declaration itself) slice)) own_counts
+    ∙ ap (λ (x : Known). flat_map (own_groups (counts_of ds) x) (map (declaration itself) slice)) knows
     ∙ ap (flat_map (own_groups (counts_of ds) (known_of ds))) same in
     let nodes_are : flat_map (node_group counts_of_nodes known) nodes ≡ flat_map (node_group (counts_of ds) (known_of ds)) (flat_map declaration_nodes ds) =
     ap (λ (xs : List ℕ). flat_map (node_group xs known) nodes) node_counts

@@ -1,5 +1,6 @@
 // The rows of clauses, which of them count, and whether they cover.
 ghost use Rattle.std.specs.Prelude.{◌≡◌, ◌∷◌, ◌++◌, [], IfOk, OnOk, map};
+ghost use Rattle.rw_tree.specs.Views.{itself};
 ghost use Rattle.rw_tree.specs.Patterns.{patterns as tree_patterns};
 ghost use Rattle.rw_tree.specs.Trees.{alternative_of, right_side};
 ghost use Rattle.rw_cover_matrix.specs.Matching.{plain_rows};
@@ -17,7 +18,7 @@ use std::alloc::Global;
 
 // Whether a right side is taken whenever the patterns match: it has no guards, or the last one is known to hold.
 fn is_total(known: &Known, rhs: &Rhs<Bound>) -> bool
-    ensures { result ≡ is_total_side known.now (right_side (λ a. a) rhs.now) }
+    ensures { result ≡ is_total_side known.now (right_side itself rhs.now) }
 {
     match rhs {
         Rhs::Plain(_) => true,
@@ -40,7 +41,7 @@ fn add_counted(
     rows: &mut Items<Items<Pattern>>,
     clause: &Alt<Bound>,
 ) -> Result<(), OutOfMemory>
-    ensures { OnOk result (plain_rows rows.new ≡ plain_rows rows.old ++ row_if_counted counts.now known.now (alternative_of (λ a. a) clause.now)) }
+    ensures { OnOk result (plain_rows rows.new ≡ plain_rows rows.old ++ row_if_counted counts.now known.now (alternative_of itself clause.now)) }
 {
     if !is_total(known, &clause.rhs) {
         return Ok(());
@@ -56,7 +57,7 @@ fn counted_rows(
     known: &Known,
     clauses: &[Alt<Bound>],
 ) -> Result<Items<Items<Pattern>>, OutOfMemory>
-    ensures { IfOk result (λ rows. plain_rows rows ≡ rows_of counts.now known.now (map (alternative_of (λ a. a)) clauses.now)) }
+    ensures { IfOk result (λ rows. plain_rows rows ≡ rows_of counts.now known.now (map (alternative_of itself) clauses.now)) }
 {
     let mut rows = Items::new(alloc);
     for clause in clauses {
@@ -75,7 +76,7 @@ pub fn clauses_cover(
     known: &Known,
     clauses: &[Alt<Bound>],
 ) -> Result<bool, OutOfMemory>
-    ensures { IfOk result (λ answer. Decides answer (rows_of counts.now known.now (map (alternative_of (λ a. a)) clauses.now))) }
+    ensures { IfOk result (λ answer. Decides answer (rows_of counts.now known.now (map (alternative_of itself) clauses.now))) }
 {
     covers(alloc, counted_rows(alloc, counts, known, clauses)?)
 }
@@ -86,7 +87,7 @@ pub fn patterns_cover(
     counts: &[usize],
     patterns: &[Pat<Bound>],
 ) -> Result<bool, OutOfMemory>
-    ensures { IfOk result (λ answer. Decides answer (row_of counts.now (tree_patterns (λ a. a) patterns.now) ∷ [])) }
+    ensures { IfOk result (λ answer. Decides answer (row_of counts.now (tree_patterns itself patterns.now) ∷ [])) }
 {
     let mut rows = Items::new(alloc);
     rows.push(matrix_row(alloc, counts, patterns)?)?;

@@ -1,5 +1,6 @@
 // The groups of rows that have to cover, one after the other: the place of each that doesn't.
 ghost use Rattle.std.specs.Prelude.{◌≡◌, IfOk, map};
+ghost use Rattle.rw_tree.specs.Views.{itself};
 ghost use Rattle.rw_tree.specs.Trees.{alternative_of, expression, local_binding, statement};
 ghost use Rattle.rw_tree.specs.Declarations.{declaration};
 ghost use Rattle.rw_scope_rules.specs.Nodes.{binding_node, expression_node, statement_node};
@@ -24,7 +25,7 @@ fn clauses_place(
     known: &Known,
     clauses: &[Alt<Bound>],
 ) -> Result<Option<Place>, OutOfMemory>
-    ensures { IfOk result (λ first. IsFirst (clauses_group counts.now known.now (map (alternative_of (λ a. a)) clauses.now)) first) }
+    ensures { IfOk result (λ first. IsFirst (clauses_group counts.now known.now (map (alternative_of itself) clauses.now)) first) }
 {
     match clauses.split_first() {
         None => Ok(None),
@@ -42,7 +43,7 @@ fn expression_place(
     known: &Known,
     tree: &Expr<Bound>,
 ) -> Result<Option<Place>, OutOfMemory>
-    ensures { IfOk result (λ first. IsFirst (node_group counts.now known.now (expression_node (expression (λ a. a) tree.now))) first) }
+    ensures { IfOk result (λ first. IsFirst (node_group counts.now known.now (expression_node (expression itself tree.now))) first) }
 {
     match tree {
         Expr::Case(at, _, rows) => {
@@ -71,7 +72,7 @@ fn binding_place(
     known: &Known,
     tree: &Local<Bound>,
 ) -> Result<Option<Place>, OutOfMemory>
-    ensures { IfOk result (λ first. IsFirst (node_group counts.now known.now (binding_node (local_binding (λ a. a) tree.now))) first) }
+    ensures { IfOk result (λ first. IsFirst (node_group counts.now known.now (binding_node (local_binding itself tree.now))) first) }
 {
     match tree {
         Local::Sig(_, _, _) => Ok(None),
@@ -90,7 +91,7 @@ fn statement_place(
     known: &Known,
     tree: &Stmt<Bound>,
 ) -> Result<Option<Place>, OutOfMemory>
-    ensures { IfOk result (λ first. IsFirst (node_group counts.now known.now (statement_node (statement (λ a. a) tree.now))) first) }
+    ensures { IfOk result (λ first. IsFirst (node_group counts.now known.now (statement_node (statement itself tree.now))) first) }
 {
     match tree {
         Stmt::Bind(at, pat, _) => {
@@ -126,7 +127,7 @@ pub fn own_place(
     known: &Known,
     decl: &Decl<Bound>,
 ) -> Result<Option<Place>, OutOfMemory>
-    ensures { IfOk result (λ first. IsFirst (own_groups counts.now known.now (declaration (λ a. a) decl.now)) first) }
+    ensures { IfOk result (λ first. IsFirst (own_groups counts.now known.now (declaration itself decl.now)) first) }
 {
     match decl {
         Decl::Fun(_, _, clauses) => clauses_place(alloc, counts, known, clauses.as_slice()),

@@ -1,5 +1,6 @@
 // What the declarations of a program say: how many constructors a data type has, and which names are known to hold.
 ghost use Rattle.std.specs.Prelude.{◌≡◌, IfOk, map};
+ghost use Rattle.rw_tree.specs.Views.{itself};
 ghost use Rattle.rw_tree.specs.Trees.{expression};
 ghost use Rattle.rw_tree.specs.Declarations.{declaration};
 ghost use Rattle.rw_cover.specs.Rows.{counts_of, is_bound_to, always_holds};
@@ -18,7 +19,7 @@ pub struct Known {
 
 /// How many constructors each declaration has, by its number: 0 where it is no data type.
 pub fn constructor_counts(alloc: Global, decls: &[Decl<Bound>]) -> Result<Vec<usize>, OutOfMemory>
-    ensures { IfOk result (λ counts. counts.items ≡ counts_of (map (declaration (λ a. a)) decls.now)) }
+    ensures { IfOk result (λ counts. counts.items ≡ counts_of (map (declaration itself) decls.now)) }
 {
     let mut counts = Vec::new(alloc);
     for decl in decls {
@@ -45,7 +46,7 @@ fn is_bound(name: Option<Binding>, to: Option<Binding>) -> bool
 impl Known {
     // Whether a guard is known to hold: it is `otherwise` or `True`, by what they are bound to.
     pub fn always(&self, test: &Expr<Bound>) -> bool
-        ensures { result ≡ always_holds self.now (expression (λ a. a) test.now) }
+        ensures { result ≡ always_holds self.now (expression itself test.now) }
     {
         match test {
             Expr::Var(at, _) => is_bound(at.bound, self.otherwise),

@@ -1,5 +1,6 @@
 // What `otherwise` and `True` are bound to.
 ghost use Rattle.std.specs.Prelude.{◌≡◌, IfOk, codes, map};
+ghost use Rattle.rw_tree.specs.Views.{itself};
 ghost use Rattle.rw_tree.specs.Declarations.{declaration, plain_constructor};
 ghost use Rattle.rw_scope_rules.specs.Names.{first_named};
 ghost use Rattle.rw_scope_rules.specs.Bindings.{declared_by, declared_constructors, declared_variables, placed_constructors};
@@ -22,7 +23,7 @@ fn number(at: usize) -> Result<u32, OutOfMemory>
 
 // The function or variable with this name: the first that these declarations declare.
 fn function_named(name: &[u8], decls: &[Decl<Bound>]) -> Result<Option<Binding>, OutOfMemory>
-    ensures { IfOk result (λ found. found ≡ first_named name.now (declared_by declared_variables 0 (map (declaration (λ a. a)) decls.now))) }
+    ensures { IfOk result (λ found. found ≡ first_named name.now (declared_by declared_variables 0 (map (declaration itself) decls.now))) }
 {
     for at in 0..decls.len() {
         if let Decl::Fun(_, declared, _) = &decls[at] {
@@ -56,7 +57,7 @@ fn constructor_in(
     at: usize,
     decl: &Decl<Bound>,
 ) -> Result<Option<Binding>, OutOfMemory>
-    ensures { IfOk result (λ found. found ≡ first_named name.now (declared_constructors at (declaration (λ a. a) decl.now))) }
+    ensures { IfOk result (λ found. found ≡ first_named name.now (declared_constructors at (declaration itself decl.now))) }
 {
     match decl {
         Decl::Data(_, made) => place_of(name, at, made.constructors.as_slice()),
@@ -66,7 +67,7 @@ fn constructor_in(
 
 // The constructor with this name: the first that these declarations declare.
 fn constructor_named(name: &[u8], decls: &[Decl<Bound>]) -> Result<Option<Binding>, OutOfMemory>
-    ensures { IfOk result (λ found. found ≡ first_named name.now (declared_by declared_constructors 0 (map (declaration (λ a. a)) decls.now))) }
+    ensures { IfOk result (λ found. found ≡ first_named name.now (declared_by declared_constructors 0 (map (declaration itself) decls.now))) }
 {
     for at in 0..decls.len() {
         let found = constructor_in(name, at, &decls[at])?;
@@ -81,7 +82,7 @@ fn constructor_named(name: &[u8], decls: &[Decl<Bound>]) -> Result<Option<Bindin
 /// constructor with the name, which are the prelude's where the program begins with it. It takes no memory; a program with
 /// 2^32 declarations, or with a data type with as many constructors, counts as want of it.
 pub fn known_of(decls: &[Decl<Bound>]) -> Result<Known, OutOfMemory>
-    ensures { IfOk result (λ known. known ≡ known_by (map (declaration (λ a. a)) decls.now)) }
+    ensures { IfOk result (λ known. known ≡ known_by (map (declaration itself) decls.now)) }
 {
     let otherwise = function_named(b"otherwise", decls)?;
     let truth = constructor_named(b"True", decls)?;

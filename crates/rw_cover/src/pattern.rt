@@ -1,5 +1,6 @@
 // The patterns of a bound tree as those of a matrix.
 ghost use Rattle.std.specs.Prelude.{◌≡◌, ◌<◌, IfOk, length, get_or};
+ghost use Rattle.rw_tree.specs.Views.{itself};
 ghost use Rattle.rw_tree.specs.Patterns.{pattern as tree_pattern, patterns as tree_patterns};
 ghost use Rattle.rw_cover_matrix.specs.Matching.{plain, plain_row, pattern_parts};
 ghost use Rattle.rw_cover.specs.Rows.{built_by, matrix_pattern as pattern_of, matrix_row as row_of};
@@ -40,7 +41,7 @@ fn matrix_pattern(
     counts: &[usize],
     pattern: &Pat<Bound>,
 ) -> Result<Pattern, OutOfMemory>
-    ensures { IfOk result (λ p. plain p ≡ pattern_of counts.now (tree_pattern (λ a. a) pattern.now)) }
+    ensures { IfOk result (λ p. plain p ≡ pattern_of counts.now (tree_pattern itself pattern.now)) }
 {
     match pattern {
         Pat::Wild(_) => Ok(Pattern::Any),
@@ -63,7 +64,7 @@ pub fn matrix_row(
     counts: &[usize],
     patterns: &[Pat<Bound>],
 ) -> Result<Items<Pattern>, OutOfMemory>
-    ensures { IfOk result (λ row. plain_row row ≡ row_of counts.now (tree_patterns (λ a. a) patterns.now)) }
+    ensures { IfOk result (λ row. plain_row row ≡ row_of counts.now (tree_patterns itself patterns.now)) }
 {
     let mut row = Items::new(alloc);
     for pattern in patterns {

@@ -5,6 +5,7 @@ ghost use Rattle.rw_base.specs.declared.place.Place.{Place as PlainPlace};
 ghost use Rattle.rw_base.specs.declared.rule.Rule.TheVariants.{E14};
 ghost use Rattle.rw_base.specs.declared.fail.Refusal.{Refusal as PlainRefusal};
 ghost use Rattle.rw_base.specs.declared.fail.Failure.TheVariants as fail;
+ghost use Rattle.rw_tree.specs.Views.{itself};
 ghost use Rattle.rw_tree.specs.Declarations.{declaration, plain_program};
 ghost use Rattle.rw_scope_nodes.specs.Plain.{plain_nodes};
 ghost use Rattle.rw_cover.specs.Coverage.{AreUncovered, groups_of, node_group};
@@ -13,8 +14,8 @@ ghost use Rattle.rw_cover.specs.Correct.{AllHaveTypes, IsCovered, IsFirst, Leave
 ghost use Rattle.rw_cover.specs.Walk.{own_groups};
 
 use crate::group::{node_place, own_place};
-use crate::named::known_of;
 use crate::laws::places_law;
+use crate::named::known_of;
 use crate::place::sooner;
 use crate::{Known, constructor_counts};
 use rw_base::{Fail, OutOfMemory, Place, Refusal, Rule};
@@ -30,7 +31,7 @@ fn first_of_own(
     known: &Known,
     decls: &[Decl<Bound>],
 ) -> Result<Option<Place>, OutOfMemory>
-    ensures { IfOk result (λ first. IsFirst (flat_map (own_groups counts.now known.now) (map (declaration (λ a. a)) decls.now)) first) }
+    ensures { IfOk result (λ first. IsFirst (flat_map (own_groups counts.now known.now) (map (declaration itself) decls.now)) first) }
 {
     let mut first = None;
     for decl in decls {
@@ -57,7 +58,7 @@ fn first_of_nodes(
 
 // The first place in the source where the patterns of a program don't cover.
 fn first_of_program(alloc: Global, program: &Program<Bound>) -> Result<Option<Place>, OutOfMemory>
-    ensures { IfOk result (λ first. IsFirst (groups_of (plain_program (λ a. a) program.now)) first) }
+    ensures { IfOk result (λ first. IsFirst (groups_of (plain_program itself program.now)) first) }
 {
     let decls = program.decls.as_slice();
     let counts = constructor_counts(alloc, decls)?;
@@ -79,20 +80,20 @@ fn first_of_program(alloc: Global, program: &Program<Bound>) -> Result<Option<Pl
 /// stand, and of patterns that may stand at none it says nothing.
 pub fn cover(alloc: Global, program: &Program<Bound>) -> Result<(), Fail>
     // No group of rows is uncovered.
-    ensures ok { OnOk result (AreUncovered (groups_of (plain_program (λ a. a) program.now)) []) }
+    ensures ok { OnOk result (AreUncovered (groups_of (plain_program itself program.now)) []) }
     // E14 is broken, first at the place that is named.
     ensures refused { (refusal : PlainRefusal) → IsErrOf result (fail.Refused refusal) →
-        (refusal.rule ≡ E14) × IsFirst (groups_of (plain_program (λ a. a) program.now)) (Some refusal.place) }
+        (refusal.rule ≡ E14) × IsFirst (groups_of (plain_program itself program.now)) (Some refusal.place) }
     // Where no group is uncovered the answer is Ok, unless memory runs out.
-    ensures covered { AllHaveTypes (groups_of (plain_program (λ a. a) program.now)) → AreUncovered (groups_of (plain_program (λ a. a) program.now)) [] →
+    ensures covered { AllHaveTypes (groups_of (plain_program itself program.now)) → AreUncovered (groups_of (plain_program itself program.now)) [] →
         IsUnlessMemory (Ok tt) result }
     // Where some are the first place is named, unless memory runs out.
-    ensures uncovered { (place : PlainPlace) → AllHaveTypes (groups_of (plain_program (λ a. a) program.now)) → IsFirst (groups_of (plain_program (λ a. a) program.now)) (Some place) →
+    ensures uncovered { (place : PlainPlace) → AllHaveTypes (groups_of (plain_program itself program.now)) → IsFirst (groups_of (plain_program itself program.now)) (Some place) →
         IsUnlessMemory (Err (fail.Refused (record { rule = E14; place = place }))) result }
     // Ok: at all types at which the rows of a group may stand, all values match one of them.
-    ensures matched { OnOk result (AllByRecursion IsCovered (groups_of (plain_program (λ a. a) program.now))) }
+    ensures matched { OnOk result (AllByRecursion IsCovered (groups_of (plain_program itself program.now))) }
     // Refused: a group at this place leaves values over, at all types at which its rows may stand.
-    ensures left_over { (refusal : PlainRefusal) → IsErrOf result (fail.Refused refusal) → LeaveOverAt (groups_of (plain_program (λ a. a) program.now)) refusal.place }
+    ensures left_over { (refusal : PlainRefusal) → IsErrOf result (fail.Refused refusal) → LeaveOverAt (groups_of (plain_program itself program.now)) refusal.place }
 {
     places_law();
     match first_of_program(alloc, program)? {

@@ -4,6 +4,7 @@ use Rattle.rw_base.specs.declared.place.Span.{Span}
 use Rattle.rw_base.specs.Answers.{Fail}
 use Rattle.rw_base.specs.declared.fail.Failure.TheVariants as fail
 use Rattle.rw_base.specs.declared.fail.Refusal.{Refusal}
+use Rattle.rw_tree.specs.Views.{itself}
 use Rattle.rw_tree.specs.declared.program.Program.{Program}
 use Rattle.rw_tree.specs.Declarations.{Declaration, PlainProgram, plain_program}
 use Rattle.rw_scope_rules.specs.declared.binding.Bound.{Bound}
@@ -32,19 +33,19 @@ keeps_err {X} Is view program (fail.Refused r) t e is = subst (λ (x : Fail). An
 keeps_err {X} Is view program fail.OutOfMemory t e is = subst (λ (x : Fail). Answers {X = X} (Keeps Is) view program (Err x)) (sym e) tt
 
 -- the world and the declarations of a bound program are those of the program
-pub inferred_as : (program : PlainProgram Span) (bound : Program Bound) → plain_program (λ a. a) bound ≡ bound_program program → (r : Result (List TypedDecl) Fail)
-    → IsInferred (world_of (plain_program (λ a. a.span) bound).declarations) (plain_program (λ a. a) bound).declarations r
+pub inferred_as : (program : PlainProgram Span) (bound : Program Bound) → plain_program itself bound ≡ bound_program program → (r : Result (List TypedDecl) Fail)
+    → IsInferred (world_of (plain_program (λ a. a.span) bound).declarations) (plain_program itself bound).declarations r
     → IsInferred (world_of program.declarations) (bound_program program).declarations r
 inferred_as program bound e r p =
-    let same : (plain_program (λ a. a) bound).declarations ≡ (bound_program program).declarations = ap (λ (x : PlainProgram Bound). x.declarations) e in
+    let same : (plain_program itself bound).declarations ≡ (bound_program program).declarations = ap (λ (x : PlainProgram Bound). x.declarations) e in
     subst (λ (ds : List (Declaration Bound)). IsInferred (world_of program.declarations) ds r) same
-    (subst (λ (w : World). IsInferred w (plain_program (λ a. a) bound).declarations r) (bound_world bound.decls (tops_of program.declarations) program.declarations same) p)
+    (subst (λ (w : World). IsInferred w (plain_program itself bound).declarations r) (bound_world bound.decls (tops_of program.declarations) program.declarations same) p)
 
-pub same_default : (program : PlainProgram Span) (bound : Program Bound) → plain_program (λ a. a) bound ≡ bound_program program → (typed : List (Declaration TypedNode))
-    → AreDefault (world_of (plain_program (λ a. a.span) bound).declarations) (plain_program (λ a. a) bound).declarations typed
-    → AreDefault (world_of program.declarations) (plain_program (λ a. a) bound).declarations typed
+pub same_default : (program : PlainProgram Span) (bound : Program Bound) → plain_program itself bound ≡ bound_program program → (typed : List (Declaration TypedNode))
+    → AreDefault (world_of (plain_program (λ a. a.span) bound).declarations) (plain_program itself bound).declarations typed
+    → AreDefault (world_of program.declarations) (plain_program itself bound).declarations typed
 same_default program bound e typed p =
-    subst (λ (w : World). AreDefault w (plain_program (λ a. a) bound).declarations typed)
+    subst (λ (w : World). AreDefault w (plain_program itself bound).declarations typed)
     (bound_world bound.decls (tops_of program.declarations) program.declarations (ap (λ (x : PlainProgram Bound). x.declarations) e)) p
 
 one_typable : (world : World) (d : Declaration Bound) (typed : Declaration TypedNode) → IsDefault world d typed → IsTypable world d
@@ -56,17 +57,17 @@ all_typable world [] (t ∷ ts) p = absurd p
 all_typable world (d ∷ ds) [] p = absurd p
 all_typable world (d ∷ ds) (t ∷ ts) (p, ps) = (one_typable world d t p, all_typable world ds ts ps)
 
-pub typed_ok : (program : PlainProgram Span) (bound : Program Bound) → plain_program (λ a. a) bound ≡ bound_program program → (typed : List (Declaration TypedNode))
-    → AreDefault (world_of (plain_program (λ a. a.span) bound).declarations) (plain_program (λ a. a) bound).declarations typed → IsTypedAs program None
+pub typed_ok : (program : PlainProgram Span) (bound : Program Bound) → plain_program itself bound ≡ bound_program program → (typed : List (Declaration TypedNode))
+    → AreDefault (world_of (plain_program (λ a. a.span) bound).declarations) (plain_program itself bound).declarations typed → IsTypedAs program None
 typed_ok program bound e typed p =
     subst (AreTypable (world_of program.declarations)) (ap (λ (x : PlainProgram Bound). x.declarations) e)
-    (all_typable (world_of program.declarations) (plain_program (λ a. a) bound).declarations typed (same_default program bound e typed p))
+    (all_typable (world_of program.declarations) (plain_program itself bound).declarations typed (same_default program bound e typed p))
 
 typed_by_refusal : (program : PlainProgram Span) (f : Fail) (r : Refusal) → f ≡ fail.Refused r → IsInferred (world_of program.declarations) (bound_program program).declarations (Err f) → IsTypedAs program (Some r)
 typed_by_refusal program f r e p = subst (λ (x : Fail). IsInferred (world_of program.declarations) (bound_program program).declarations (Err x)) e p
 
-pub typed_err : {X : Type 0} (view : X → PlainProgram Span) (program : PlainProgram Span) (bound : Program Bound) → plain_program (λ a. a) bound ≡ bound_program program → (f t : Fail) → t ≡ told_of program f
-    → IsInferred (world_of (plain_program (λ a. a.span) bound).declarations) (plain_program (λ a. a) bound).declarations (Err f) → Answers (Keeps IsTypedAs) view program (Err t)
+pub typed_err : {X : Type 0} (view : X → PlainProgram Span) (program : PlainProgram Span) (bound : Program Bound) → plain_program itself bound ≡ bound_program program → (f t : Fail) → t ≡ told_of program f
+    → IsInferred (world_of (plain_program (λ a. a.span) bound).declarations) (plain_program itself bound).declarations (Err f) → Answers (Keeps IsTypedAs) view program (Err t)
 typed_err view program bound e f t told p = keeps_err IsTypedAs view program f t told (λ r is. typed_by_refusal program f r is (inferred_as program bound e (Err f) p))
 
 -- == The whole ==

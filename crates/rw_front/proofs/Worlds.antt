@@ -2,6 +2,7 @@
 use Rattle.std.proofs.Common.{◌≡◌, ◌∙◌, refl, sym, ap, ℕ, suc, List, [], ◌∷◌, ◌++◌, map, flat_map, Option, Some, None}
 use mathlib.Core.Path.{fun_ext}
 use Rattle.rw_base.specs.declared.place.Span.{Span}
+use Rattle.rw_tree.specs.Views.{itself}
 use Rattle.rw_tree.specs.declared.decl.Decl.{Decl}
 use Rattle.rw_tree.specs.declared.decl.Decl.TheVariants.{Import, Data, Fixity, Sig, Fun}
 use Rattle.rw_tree.specs.declared.types.Kind.{Kind}
@@ -114,7 +115,7 @@ bound_bare tops n (signature_declaration a names type ∷ ds) = ap (λ es. signa
 bound_bare tops n (function_declaration a x clauses ∷ ds) = ap (λ es. function_declaration nowhere x [] ∷ es) (bound_bare tops (suc n) ds)
 
 -- the world of a bound tree is that of the tree before
-pub bound_world : (decls : List (Decl Bound)) (tops : Tops) (ds : List (Declaration Span)) → map (declaration (λ a. a)) decls ≡ bound_declarations tops 0 ds
+pub bound_world : (decls : List (Decl Bound)) (tops : Tops) (ds : List (Declaration Span)) → map (declaration itself) decls ≡ bound_declarations tops 0 ds
     → world_of (map (declaration (λ a. a.span)) decls) ≡ world_of ds
 bound_world decls tops ds e =
     sym (world_bare (map (declaration (λ a. a.span)) decls))

@@ -1,5 +1,6 @@
 // The rules on the tree, E06 to E16: each stage's answer, with a place in the prelude reported as that of `start`.
 ghost use Rattle.std.specs.Prelude.{◌≡◌, IfOk, map};
+ghost use Rattle.rw_tree.specs.Views.{itself};
 ghost use Rattle.rw_tree.specs.Declarations.{plain_program};
 ghost use Rattle.rw_scope_rules.specs.Bindings.{bound_program};
 ghost use Rattle.rw_types_rules.specs.Schemes.{world_of};
@@ -31,7 +32,7 @@ fn told(program: &Program<Span>, fail: Fail) -> Fail
 /// E06 to E12: names, kinds, data types and let groups.
 pub fn scoped(alloc: Global, program: &Program<Span>) -> Result<Program<Bound>, Fail>
     ensures answers { Answers (Keeps IsScopedAs) (λ _. plain_program (λ span. span) program.now) (plain_program (λ span. span) program.now) result }
-    ensures bound { IfOk result (λ made. plain_program (λ a. a) made ≡ bound_program (plain_program (λ span. span) program.now)) }
+    ensures bound { IfOk result (λ made. plain_program itself made ≡ bound_program (plain_program (λ span. span) program.now)) }
 {
     match scope(alloc, program) {
         Ok(Scoped { program }) => Ok(program),
@@ -45,9 +46,9 @@ pub fn typed(
     program: &Program<Span>,
     bound: &Program<Bound>,
 ) -> Result<Items<TypedDecl>, Fail>
-    requires { plain_program (λ a. a) bound.now ≡ bound_program (plain_program (λ span. span) program.now) }
+    requires { plain_program itself bound.now ≡ bound_program (plain_program (λ span. span) program.now) }
     ensures answers { Answers (Keeps IsTypedAs) (λ _. plain_program (λ span. span) program.now) (plain_program (λ span. span) program.now) result }
-    ensures typed { IfOk result (λ made. AreDefault (world_of (plain_program (λ span. span) program.now).declarations) (plain_program (λ a. a) bound.now).declarations (map seen made)) }
+    ensures typed { IfOk result (λ made. AreDefault (world_of (plain_program (λ span. span) program.now).declarations) (plain_program itself bound.now).declarations (map seen made)) }
 {
     match infer(alloc, bound) {
         Ok(typed) => Ok(typed),
@@ -57,7 +58,7 @@ pub fn typed(
 
 /// E14: patterns cover.
 pub fn covered(alloc: Global, program: &Program<Span>, bound: &Program<Bound>) -> Result<(), Fail>
-    requires { plain_program (λ a. a) bound.now ≡ bound_program (plain_program (λ span. span) program.now) }
+    requires { plain_program itself bound.now ≡ bound_program (plain_program (λ span. span) program.now) }
     ensures { Answers (Keeps IsCoveredAs) (λ _. plain_program (λ span. span) program.now) (plain_program (λ span. span) program.now) result }
 {
     match cover(alloc, bound) {
@@ -68,7 +69,7 @@ pub fn covered(alloc: Global, program: &Program<Span>, bound: &Program<Bound>) -
 
 /// E15 and E16: `start` and its system.
 pub fn started(alloc: Global, program: &Program<Span>, bound: &Program<Bound>) -> Result<(), Fail>
-    requires { plain_program (λ a. a) bound.now ≡ bound_program (plain_program (λ span. span) program.now) }
+    requires { plain_program itself bound.now ≡ bound_program (plain_program (λ span. span) program.now) }
     ensures { Answers (Keeps StartsAs) (λ _. plain_program (λ span. span) program.now) (plain_program (λ span. span) program.now) result }
 {
     match check_start(alloc, bound) {

@@ -1,5 +1,6 @@
 // Scoping: the rules in the order of their codes, and the bound tree.
 ghost use Rattle.std.specs.Prelude.{◌≡◌, None, IfOk};
+ghost use Rattle.rw_tree.specs.Views.{itself};
 ghost use Rattle.rw_tree.specs.Declarations.{plain_program};
 ghost use Rattle.rw_scope_rules.specs.Bindings.{bound_program};
 ghost use Rattle.rw_scope_rules.specs.Verdict.{IsScoped, first_broken};
@@ -18,7 +19,7 @@ use std::alloc::Global;
 
 // The rules on names, E06 to E09.
 fn judge_names(alloc: Global, program: &Program<Span>, bound: &Program<Bound>) -> Result<(), Fail>
-    ensures { plain_program (λ a. a) bound.now ≡ bound_program (plain_program (λ a. a) program.now) → IsJudged (broken_names (plain_program (λ a. a) program.now) None) result }
+    ensures { plain_program itself bound.now ≡ bound_program (plain_program itself program.now) → IsJudged (broken_names (plain_program itself program.now) None) result }
 {
     let modules = unknown_modules(alloc, program)?;
     refuse(Rule::E06, modules.as_slice())?;
@@ -32,7 +33,7 @@ fn judge_names(alloc: Global, program: &Program<Span>, bound: &Program<Bound>) -
 
 // The rules on types and let groups, E10 to E12.
 fn judge_types(alloc: Global, program: &Program<Span>, bound: &Program<Bound>) -> Result<(), Fail>
-    ensures { plain_program (λ a. a) bound.now ≡ bound_program (plain_program (λ a. a) program.now) → IsJudged (broken_types (plain_program (λ a. a) program.now)) result }
+    ensures { plain_program itself bound.now ≡ bound_program (plain_program itself program.now) → IsJudged (broken_types (plain_program itself program.now)) result }
 {
     let kinds = misused(alloc, program)?;
     refuse(Rule::E10, kinds.as_slice())?;
@@ -52,11 +53,11 @@ fn judge_types(alloc: Global, program: &Program<Span>, bound: &Program<Bound>) -
 /// in scope at one place, counts as want of memory.
 pub fn scope(alloc: Global, program: &Program<Span>) -> Result<Scoped, Fail>
     // Ok where no rule is broken, and else the first broken one at its first place.
-    ensures judged { IsJudged (first_broken (plain_program (λ a. a) program.now)) result }
+    ensures judged { IsJudged (first_broken (plain_program itself program.now)) result }
     // Ok: E06 to E12 hold.
-    ensures scoped { IfOk result (λ _. IsScoped (plain_program (λ a. a) program.now)) }
+    ensures scoped { IfOk result (λ _. IsScoped (plain_program itself program.now)) }
     // Ok: the tree is the program with each of its names bound.
-    ensures bound { IfOk result (λ scoped. plain_program (λ a. a) scoped.program ≡ bound_program (plain_program (λ a. a) program.now)) }
+    ensures bound { IfOk result (λ scoped. plain_program itself scoped.program ≡ bound_program (plain_program itself program.now)) }
 {
     verdict_law();
     let bound = bind(alloc, program)?;

@@ -2,6 +2,7 @@
 use Rattle.std.proofs.Common.{◌≡◌, ℕ, suc, ◌+◌, ◌<◌, List, [], ◌∷◌, ◌++◌, length, map, drop, get_or, Option, Some, refl, sym, ap, ◌∙◌, if◌then◌else◌, arith}
 use Rattle.std.proofs.lemmas.Grind.{common_steps}
 use Rattle.rw_base.specs.declared.place.Span.{Span}
+use Rattle.rw_tree.specs.Views.{itself}
 use Rattle.rw_tree.specs.declared.decl.Decl.{Decl}
 use Rattle.rw_tree.specs.declared.decl.Decl.TheVariants.{Data}
 use Rattle.rw_tree.specs.declared.decl.DataDecl.{DataDecl}
@@ -26,18 +27,18 @@ one_before xs n a within read =
 -- one declaration more, from the last on
 pub declared_more : (declared : ℕ → Declaration Span → List (Bytes × Binding)) (decls : List (Decl Span)) (n at : ℕ) (d : Decl Span) (old new : List (Bytes × Binding)) (x : Bytes)
     → n < length decls → at ≡ n + 1 → d ≡ get_or decls n d
-    → first_named x old ≡ first_named x (declared_by declared at (map (declaration (λ a. a)) (drop at decls)))
-    → first_named x new ≡ first_named x (declared n (declaration (λ a. a) d) ++ old)
-    → first_named x new ≡ first_named x (declared_by declared n (map (declaration (λ a. a)) (drop n decls)))
+    → first_named x old ≡ first_named x (declared_by declared at (map (declaration itself) (drop at decls)))
+    → first_named x new ≡ first_named x (declared n (declaration itself d) ++ old)
+    → first_named x new ≡ first_named x (declared_by declared n (map (declaration itself) (drop n decls)))
 declared_more declared decls n at d old new x within step read so_far put =
     let e : at ≡ suc n = omega arith in
     put
-    ∙ after_these x (declared n (declaration (λ a. a) d)) old (declared_by declared (suc n) (map (declaration (λ a. a)) (drop (suc n) decls)))
-    (so_far ∙ ap (λ k. first_named x (declared_by declared k (map (declaration (λ a. a)) (drop k decls)))) e)
-    ∙ ap (λ ds. first_named x (declared_by declared n (map (declaration (λ a. a)) ds))) (sym (one_before decls n d within read))
+    ∙ after_these x (declared n (declaration itself d)) old (declared_by declared (suc n) (map (declaration itself) (drop (suc n) decls)))
+    (so_far ∙ ap (λ k. first_named x (declared_by declared k (map (declaration itself) (drop k decls)))) e)
+    ∙ ap (λ ds. first_named x (declared_by declared n (map (declaration itself) ds))) (sym (one_before decls n d within read))
 
 -- the constructors of a data type, put before what is there
 pub data_put : (d : Decl Span) (a : Span) (made : DataDecl) (n m : ℕ) (slice : List Constructor) (old : List (Bytes × Binding)) (r : Option Binding) (x : Bytes)
     → d ≡ Data a made → m ≡ n → slice ≡ made.constructors
-    → r ≡ first_named x (placed_constructors m 0 (map plain_constructor slice) ++ old) → r ≡ first_named x (declared_constructors n (declaration (λ a. a) d) ++ old)
+    → r ≡ first_named x (placed_constructors m 0 (map plain_constructor slice) ++ old) → r ≡ first_named x (declared_constructors n (declaration itself d) ++ old)
 data_put d a made n m slice old r x is place read put = put ∙ (rw (is, place, read) refl)

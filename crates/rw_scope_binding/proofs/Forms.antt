@@ -2,6 +2,7 @@
 use Rattle.std.proofs.Common.{◌≡◌, ℕ, ◌+◌, ◌<◌, List, [], ◌∷◌, ◌++◌, length, map, drop, get_or, refl, sym, ap, ◌∙◌, arith}
 use Rattle.std.proofs.lemmas.Grind.{common_steps}
 use Rattle.rw_base.specs.declared.place.Span.{Span}
+use Rattle.rw_tree.specs.Views.{itself}
 use Rattle.rw_tree.specs.declared.pattern.Pat.{Pat}
 use Rattle.rw_tree.specs.declared.clause.Local.{Local}
 use Rattle.rw_tree.specs.Patterns.{Pattern, pattern, patterns}
@@ -27,21 +28,21 @@ inside_group-more b bs scope =
     ∙ entered-append (names_of (binding_variables b)) (names_of (group_variables (binding_parts bs))) scope
 
 -- one name more of a list of patterns, and of a group
-pub row_entered : (pats : List (Pat Span)) (i : ℕ) (p : Pat Span) (s s' whole : Scope) → i < length pats → p ≡ get_or pats i p → s' ≡ inside (pattern (λ a. a) p) s
-    → inside_row (patterns (λ a. a) (drop i pats)) s ≡ whole → inside_row (patterns (λ a. a) (drop (i + 1) pats)) s' ≡ whole
+pub row_entered : (pats : List (Pat Span)) (i : ℕ) (p : Pat Span) (s s' whole : Scope) → i < length pats → p ≡ get_or pats i p → s' ≡ inside (pattern itself p) s
+    → inside_row (patterns itself (drop i pats)) s ≡ whole → inside_row (patterns itself (drop (i + 1) pats)) s' ≡ whole
 row_entered pats i p s s' whole within read same so_far =
     let next : drop i pats ≡ p ∷ drop (i + 1) pats = grind (arith, common_steps) in
-    ap (inside_row (patterns (λ a. a) (drop (i + 1) pats))) same
-    ∙ sym (inside_row-more (pattern (λ a. a) p) (patterns (λ a. a) (drop (i + 1) pats)) s)
-    ∙ ap (λ ps. inside_row (patterns (λ a. a) ps) s) (sym next) ∙ so_far
+    ap (inside_row (patterns itself (drop (i + 1) pats))) same
+    ∙ sym (inside_row-more (pattern itself p) (patterns itself (drop (i + 1) pats)) s)
+    ∙ ap (λ ps. inside_row (patterns itself ps) s) (sym next) ∙ so_far
 
-pub group_entered : (locals : List (Local Span)) (i : ℕ) (b : Local Span) (s s' whole : Scope) → i < length locals → b ≡ get_or locals i b → s' ≡ entered (names_of (binding_variables (local_binding (λ a. a) b))) s
-    → inside_group (binding_parts (map (local_binding (λ a. a)) (drop i locals))) s ≡ whole → inside_group (binding_parts (map (local_binding (λ a. a)) (drop (i + 1) locals))) s' ≡ whole
+pub group_entered : (locals : List (Local Span)) (i : ℕ) (b : Local Span) (s s' whole : Scope) → i < length locals → b ≡ get_or locals i b → s' ≡ entered (names_of (binding_variables (local_binding itself b))) s
+    → inside_group (binding_parts (map (local_binding itself) (drop i locals))) s ≡ whole → inside_group (binding_parts (map (local_binding itself) (drop (i + 1) locals))) s' ≡ whole
 group_entered locals i b s s' whole within read same so_far =
     let next : drop i locals ≡ b ∷ drop (i + 1) locals = grind (arith, common_steps) in
-    ap (inside_group (binding_parts (map (local_binding (λ a. a)) (drop (i + 1) locals)))) same
-    ∙ sym (inside_group-more (local_binding (λ a. a) b) (map (local_binding (λ a. a)) (drop (i + 1) locals)) s)
-    ∙ ap (λ bs. inside_group (binding_parts (map (local_binding (λ a. a)) bs)) s) (sym next) ∙ so_far
+    ap (inside_group (binding_parts (map (local_binding itself) (drop (i + 1) locals)))) same
+    ∙ sym (inside_group-more (local_binding itself b) (map (local_binding itself) (drop (i + 1) locals)) s)
+    ∙ ap (λ bs. inside_group (binding_parts (map (local_binding itself) bs)) s) (sym next) ∙ so_far
 
 pub ruleset leave_steps = (lowest-all, lowest-below_last)
 

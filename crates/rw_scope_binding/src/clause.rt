@@ -1,5 +1,6 @@
 // Clauses and alternatives, their right sides, and what follows `where`.
 ghost use Rattle.std.specs.Prelude.{◌≡◌, map, IfOk, OnOk};
+ghost use Rattle.rw_tree.specs.Views.{itself};
 ghost use Rattle.rw_tree.specs.Patterns.{patterns};
 ghost use Rattle.rw_tree.specs.Trees.{alternative, alternative_of, alternative_parts, binding_parts, body_parts, guarded, local_binding, right_side};
 ghost use Rattle.rw_scope_rules.specs.Bindings.{bound_bodies, bound_body, bound_clause, bound_clauses, bound_side, unnamed as unnamed_at};
@@ -24,7 +25,7 @@ pub fn clause_of(
     rhs: Rhs<Bound>,
     wheres: Items<Local<Bound>>,
 ) -> Alt<Bound>
-    ensures { alternative_of (λ a. a) result ≡ alternative (unnamed_at at) (patterns (λ a. a) pats) (right_side (λ a. a) rhs) (binding_parts (map (local_binding (λ a. a)) wheres)) }
+    ensures { alternative_of itself result ≡ alternative (unnamed_at at) (patterns itself pats) (right_side itself rhs) (binding_parts (map (local_binding itself) wheres)) }
 {
     Alt {
         at: unnamed(at),
@@ -43,7 +44,7 @@ pub fn bind_clause(
     scope: &mut Locals,
     clause: &Alt<Span>,
 ) -> Result<Alt<Bound>, OutOfMemory>
-    ensures tree { IfOk result (λ bound. alternative_of (λ a. a) bound ≡ bound_clause (known tops.now) scope.old (alternative_of (λ a. a) clause.now)) }
+    ensures tree { IfOk result (λ bound. alternative_of itself bound ≡ bound_clause (known tops.now) scope.old (alternative_of itself clause.now)) }
     ensures scope { OnOk result (scope.new ≡ scope.old) }
 {
     let outer = scope.depth();
@@ -61,8 +62,8 @@ pub fn bind_clauses(
     scope: &mut Locals,
     clauses: &[Alt<Span>],
 ) -> Result<Items<Alt<Bound>>, OutOfMemory>
-    ensures trees { IfOk result (λ bound. map (alternative_of (λ a. a)) bound ≡ map (bound_clause (known tops.now) scope.old) (map (alternative_of (λ a. a)) clauses.now)) }
-    ensures parts { IfOk result (λ bound. alternative_parts (map (alternative_of (λ a. a)) bound) ≡ bound_clauses (known tops.now) scope.old (alternative_parts (map (alternative_of (λ a. a)) clauses.now))) }
+    ensures trees { IfOk result (λ bound. map (alternative_of itself) bound ≡ map (bound_clause (known tops.now) scope.old) (map (alternative_of itself) clauses.now)) }
+    ensures parts { IfOk result (λ bound. alternative_parts (map (alternative_of itself) bound) ≡ bound_clauses (known tops.now) scope.old (alternative_parts (map (alternative_of itself) clauses.now))) }
     ensures scope { OnOk result (scope.new ≡ scope.old) }
 {
     let mut bound = Items::new(alloc);
@@ -79,7 +80,7 @@ pub fn bind_side(
     scope: &mut Locals,
     rhs: &Rhs<Span>,
 ) -> Result<Rhs<Bound>, OutOfMemory>
-    ensures tree { IfOk result (λ bound. right_side (λ a. a) bound ≡ bound_side (known tops.now) scope.old (right_side (λ a. a) rhs.now)) }
+    ensures tree { IfOk result (λ bound. right_side itself bound ≡ bound_side (known tops.now) scope.old (right_side itself rhs.now)) }
     ensures scope { OnOk result (scope.new ≡ scope.old) }
 {
     match rhs {
@@ -101,7 +102,7 @@ fn bind_guard(
     scope: &mut Locals,
     guard: &Guard<Span>,
 ) -> Result<Guard<Bound>, OutOfMemory>
-    ensures tree { IfOk result (λ bound. guarded (λ a. a) bound ≡ bound_body (known tops.now) scope.old (guarded (λ a. a) guard.now)) }
+    ensures tree { IfOk result (λ bound. guarded itself bound ≡ bound_body (known tops.now) scope.old (guarded itself guard.now)) }
     ensures scope { OnOk result (scope.new ≡ scope.old) }
 {
     let test = bind_expr(alloc, tops, scope, &guard.test)?;
@@ -116,7 +117,7 @@ fn bind_guards(
     scope: &mut Locals,
     guards: &[Guard<Span>],
 ) -> Result<Items<Guard<Bound>>, OutOfMemory>
-    ensures trees { IfOk result (λ bound. body_parts (map (guarded (λ a. a)) bound) ≡ bound_bodies (known tops.now) scope.old (body_parts (map (guarded (λ a. a)) guards.now))) }
+    ensures trees { IfOk result (λ bound. body_parts (map (guarded itself) bound) ≡ bound_bodies (known tops.now) scope.old (body_parts (map (guarded itself) guards.now))) }
     ensures scope { OnOk result (scope.new ≡ scope.old) }
 {
     let mut bound = Items::new(alloc);

@@ -1,5 +1,6 @@
 // Names that come into scope.
 ghost use Rattle.std.specs.Prelude.{◌≡◌, map, OnOk};
+ghost use Rattle.rw_tree.specs.Views.{itself};
 ghost use Rattle.rw_tree.specs.Patterns.{pattern, pattern_parts, patterns};
 ghost use Rattle.rw_tree.specs.Trees.{binding_parts, local_binding};
 ghost use Rattle.rw_scope_rules.specs.Bindings.{binding_variables, entered, inside, inside_group, inside_row, names_of, parts_variables};
@@ -12,7 +13,7 @@ use std::alloc::Global;
 // The variables of a pattern.
 #[cycle(entering)]
 pub fn enter_pattern(alloc: Global, scope: &mut Locals, pat: &Pat<Span>) -> Result<(), OutOfMemory>
-    ensures { OnOk result (scope.new ≡ inside (pattern (λ a. a) pat.now) scope.old) }
+    ensures { OnOk result (scope.new ≡ inside (pattern itself pat.now) scope.old) }
 {
     match pat {
         Pat::Wild(_) => Ok(()),
@@ -25,8 +26,8 @@ pub fn enter_pattern(alloc: Global, scope: &mut Locals, pat: &Pat<Span>) -> Resu
 // Those of several patterns.
 #[cycle(entering)]
 pub fn enter_row(alloc: Global, scope: &mut Locals, pats: &[Pat<Span>]) -> Result<(), OutOfMemory>
-    ensures row { OnOk result (scope.new ≡ inside_row (patterns (λ a. a) pats.now) scope.old) }
-    ensures parts { OnOk result (scope.new ≡ entered (names_of (parts_variables (pattern_parts (patterns (λ a. a) pats.now)))) scope.old) }
+    ensures row { OnOk result (scope.new ≡ inside_row (patterns itself pats.now) scope.old) }
+    ensures parts { OnOk result (scope.new ≡ entered (names_of (parts_variables (pattern_parts (patterns itself pats.now)))) scope.old) }
 {
     for pat in pats {
         enter_pattern(alloc, scope, pat)?;
@@ -36,7 +37,7 @@ pub fn enter_row(alloc: Global, scope: &mut Locals, pats: &[Pat<Span>]) -> Resul
 
 // What a local declaration binds.
 fn enter_local(alloc: Global, scope: &mut Locals, local: &Local<Span>) -> Result<(), OutOfMemory>
-    ensures { OnOk result (scope.new ≡ entered (names_of (binding_variables (local_binding (λ a. a) local.now))) scope.old) }
+    ensures { OnOk result (scope.new ≡ entered (names_of (binding_variables (local_binding itself local.now))) scope.old) }
 {
     match local {
         Local::Sig(_, _, _) => Ok(()),
@@ -51,7 +52,7 @@ pub fn enter_group(
     scope: &mut Locals,
     locals: &[Local<Span>],
 ) -> Result<(), OutOfMemory>
-    ensures { OnOk result (scope.new ≡ inside_group (binding_parts (map (local_binding (λ a. a)) locals.now)) scope.old) }
+    ensures { OnOk result (scope.new ≡ inside_group (binding_parts (map (local_binding itself) locals.now)) scope.old) }
 {
     for local in locals {
         enter_local(alloc, scope, local)?;

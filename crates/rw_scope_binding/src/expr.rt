@@ -1,5 +1,6 @@
 // Expressions and statements: copied, with what each name is bound to.
 ghost use Rattle.std.specs.Prelude.{◌≡◌, map, IfOk, OnOk};
+ghost use Rattle.rw_tree.specs.Views.{itself};
 ghost use Rattle.rw_tree.specs.Trees.{expression, expression_parts, statement, statement_parts};
 ghost use Rattle.rw_scope_rules.specs.Bindings.{bound_expression, bound_expressions, bound_statement, bound_statements, inside_statement};
 ghost use Rattle.rw_scope_binding.specs.Numbered.{known, after_steps};
@@ -25,7 +26,7 @@ pub fn bind_expr(
     scope: &mut Locals,
     expr: &Expr<Span>,
 ) -> Result<Expr<Bound>, OutOfMemory>
-    ensures tree { IfOk result (λ bound. expression (λ a. a) bound ≡ bound_expression (known tops.now) scope.old (expression (λ a. a) expr.now)) }
+    ensures tree { IfOk result (λ bound. expression itself bound ≡ bound_expression (known tops.now) scope.old (expression itself expr.now)) }
     ensures scope { OnOk result (scope.new ≡ scope.old) }
 {
     match expr {
@@ -92,7 +93,7 @@ fn bind_boxed(
     scope: &mut Locals,
     expr: &Boxed<Expr<Span>>,
 ) -> Result<Boxed<Expr<Bound>>, OutOfMemory>
-    ensures tree { IfOk result (λ bound. expression (λ a. a) bound ≡ bound_expression (known tops.now) scope.old (expression (λ a. a) expr.now)) }
+    ensures tree { IfOk result (λ bound. expression itself bound ≡ bound_expression (known tops.now) scope.old (expression itself expr.now)) }
     ensures scope { OnOk result (scope.new ≡ scope.old) }
 {
     Ok(Boxed::new(alloc, bind_expr(alloc, tops, scope, expr.get())?)?)
@@ -105,7 +106,7 @@ fn bind_exprs(
     scope: &mut Locals,
     exprs: &[Expr<Span>],
 ) -> Result<Items<Expr<Bound>>, OutOfMemory>
-    ensures trees { IfOk result (λ bound. expression_parts (map (expression (λ a. a)) bound) ≡ bound_expressions (known tops.now) scope.old (expression_parts (map (expression (λ a. a)) exprs.now))) }
+    ensures trees { IfOk result (λ bound. expression_parts (map (expression itself) bound) ≡ bound_expressions (known tops.now) scope.old (expression_parts (map (expression itself) exprs.now))) }
     ensures scope { OnOk result (scope.new ≡ scope.old) }
 {
     let mut bound = Items::new(alloc);
@@ -123,8 +124,8 @@ fn bind_stmt(
     scope: &mut Locals,
     stmt: &Stmt<Span>,
 ) -> Result<Stmt<Bound>, OutOfMemory>
-    ensures tree { IfOk result (λ bound. statement (λ a. a) bound ≡ bound_statement (known tops.now) scope.old (statement (λ a. a) stmt.now)) }
-    ensures scope { OnOk result (scope.new ≡ inside_statement (statement (λ a. a) stmt.now) scope.old) }
+    ensures tree { IfOk result (λ bound. statement itself bound ≡ bound_statement (known tops.now) scope.old (statement itself stmt.now)) }
+    ensures scope { OnOk result (scope.new ≡ inside_statement (statement itself stmt.now) scope.old) }
 {
     match stmt {
         Stmt::Bind(at, pat, body) => {
@@ -150,8 +151,8 @@ fn bind_stmts(
     scope: &mut Locals,
     stmts: &[Stmt<Span>],
 ) -> Result<Items<Stmt<Bound>>, OutOfMemory>
-    ensures trees { IfOk result (λ bound. statement_parts (map (statement (λ a. a)) bound) ≡ bound_statements (known tops.now) scope.old (statement_parts (map (statement (λ a. a)) stmts.now))) }
-    ensures scope { OnOk result (scope.new ≡ after_steps (map (statement (λ a. a)) stmts.now) scope.old) }
+    ensures trees { IfOk result (λ bound. statement_parts (map (statement itself) bound) ≡ bound_statements (known tops.now) scope.old (statement_parts (map (statement itself) stmts.now))) }
+    ensures scope { OnOk result (scope.new ≡ after_steps (map (statement itself) stmts.now) scope.old) }
 {
     let mut bound = Items::new(alloc);
     for stmt in stmts {

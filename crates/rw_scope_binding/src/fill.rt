@@ -1,5 +1,6 @@
 // The table of the names at top level: the operations, and what the declarations declare.
 ghost use Rattle.std.specs.Prelude.{◌≡◌, ◌++◌, ◌∷◌, map, IfOk, OnOk};
+ghost use Rattle.rw_tree.specs.Views.{itself};
 ghost use Rattle.rw_tree.specs.Declarations.{declaration, plain_constructor};
 ghost use Rattle.rw_scope_rules.specs.Names.{Bytes, first_named};
 ghost use Rattle.rw_scope_rules.specs.declared.binding.Binding.TheVariants.{Operation as Operates};
@@ -25,7 +26,7 @@ fn number(at: usize) -> Result<u32, OutOfMemory>
 
 // The variables of the declarations. The first of several with one name counts, so the last is put in first.
 fn variables_of(alloc: Global, decls: &[Decl<Span>]) -> Result<Table<Binding>, OutOfMemory>
-    ensures { IfOk result (λ variables. (x : Bytes) → first_named x variables ≡ first_named x (declared_by declared_variables 0 (map (declaration (λ a. a)) decls.now))) }
+    ensures { IfOk result (λ variables. (x : Bytes) → first_named x variables ≡ first_named x (declared_by declared_variables 0 (map (declaration itself) decls.now))) }
 {
     let mut variables = Table::new(alloc);
     let mut at = decls.len();
@@ -58,7 +59,7 @@ fn put_constructors(
 
 // The constructors of the declarations.
 fn constructors_of(alloc: Global, decls: &[Decl<Span>]) -> Result<Table<Binding>, OutOfMemory>
-    ensures { IfOk result (λ constructors. (x : Bytes) → first_named x constructors ≡ first_named x (declared_by declared_constructors 0 (map (declaration (λ a. a)) decls.now))) }
+    ensures { IfOk result (λ constructors. (x : Bytes) → first_named x constructors ≡ first_named x (declared_by declared_constructors 0 (map (declaration itself) decls.now))) }
 {
     let mut table = Table::new(alloc);
     let mut at = decls.len();
@@ -109,8 +110,8 @@ fn put_last(alloc: Global, table: &mut Table<Binding>) -> Result<(), OutOfMemory
 
 // The names at top level of a program with these declarations.
 pub fn fill(alloc: Global, decls: &[Decl<Span>]) -> Result<Tops, OutOfMemory>
-    ensures variables { IfOk result (λ tops. (x : Bytes) → first_named x tops.variables ≡ first_named x (tops_of (map (declaration (λ a. a)) decls.now)).variables) }
-    ensures constructors { IfOk result (λ tops. (x : Bytes) → first_named x tops.constructors ≡ first_named x (tops_of (map (declaration (λ a. a)) decls.now)).constructors) }
+    ensures variables { IfOk result (λ tops. (x : Bytes) → first_named x tops.variables ≡ first_named x (tops_of (map (declaration itself) decls.now)).variables) }
+    ensures constructors { IfOk result (λ tops. (x : Bytes) → first_named x tops.constructors ≡ first_named x (tops_of (map (declaration itself) decls.now)).constructors) }
 {
     let mut variables = variables_of(alloc, decls)?;
     put_last(alloc, &mut variables)?;

@@ -1,5 +1,6 @@
 // Let groups: what one `let` or one `where` binds.
 ghost use Rattle.std.specs.Prelude.{◌≡◌, ◌+◌, length, map, IfOk, OnOk};
+ghost use Rattle.rw_tree.specs.Views.{itself};
 ghost use Rattle.rw_tree.specs.Trees.{binding_parts, local_binding};
 ghost use Rattle.rw_scope_rules.specs.Bindings.{binding_variables, bound_group, group_names, inside_group};
 ghost use Rattle.rw_scope_binding.specs.Numbered.{known, numbered_binding};
@@ -25,8 +26,8 @@ pub fn bind_group(
     scope: &mut Locals,
     locals: &[Local<Span>],
 ) -> Result<Items<Local<Bound>>, OutOfMemory>
-    ensures trees { IfOk result (λ bound. let group = binding_parts (map (local_binding (λ a. a)) locals.now) in binding_parts (map (local_binding (λ a. a)) bound) ≡ bound_group (known tops.now) (group_names group) (inside_group group scope.old) scope.old group) }
-    ensures scope { OnOk result (scope.new ≡ inside_group (binding_parts (map (local_binding (λ a. a)) locals.now)) scope.old) }
+    ensures trees { IfOk result (λ bound. let group = binding_parts (map (local_binding itself) locals.now) in binding_parts (map (local_binding itself) bound) ≡ bound_group (known tops.now) (group_names group) (inside_group group scope.old) scope.old group) }
+    ensures scope { OnOk result (scope.new ≡ inside_group (binding_parts (map (local_binding itself) locals.now)) scope.old) }
 {
     let outer = scope.depth();
     enter_group(alloc, scope, locals)?;
@@ -49,8 +50,8 @@ fn bind_local(
     number: &mut u32,
     local: &Local<Span>,
 ) -> Result<Local<Bound>, OutOfMemory>
-    ensures tree { IfOk result (λ bound. local_binding (λ a. a) bound ≡ numbered_binding (known tops.now) outer scope.old number.old (local_binding (λ a. a) local.now)) }
-    ensures count { OnOk result (number.new ≡ number.old + length (binding_variables (local_binding (λ a. a) local.now))) }
+    ensures tree { IfOk result (λ bound. local_binding itself bound ≡ numbered_binding (known tops.now) outer scope.old number.old (local_binding itself local.now)) }
+    ensures count { OnOk result (number.new ≡ number.old + length (binding_variables (local_binding itself local.now))) }
     ensures scope { OnOk result (scope.new ≡ scope.old) }
 {
     match local {

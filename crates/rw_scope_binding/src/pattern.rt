@@ -1,5 +1,6 @@
 // Patterns: bound, with their variables numbered from left to right.
 ghost use Rattle.std.specs.Prelude.{◌≡◌, ◌+◌, length, IfOk, OnOk};
+ghost use Rattle.rw_tree.specs.Views.{itself};
 ghost use Rattle.rw_tree.specs.Patterns.{pattern, pattern_parts, patterns};
 ghost use Rattle.rw_scope_rules.specs.Bindings.{bound_pattern, bound_row, inside, inside_row, parts_variables, pattern_variables, row_variables};
 ghost use Rattle.rw_scope_binding.specs.Numbered.{known, numbered_parts, numbered_pattern, numbered_row};
@@ -22,8 +23,8 @@ pub fn bind_pattern(
     number: &mut u32,
     pat: &Pat<Span>,
 ) -> Result<Pat<Bound>, OutOfMemory>
-    ensures tree { IfOk result (λ bound. pattern (λ a. a) bound ≡ numbered_pattern (known tops.now) number.old (pattern (λ a. a) pat.now)) }
-    ensures count { OnOk result (number.new ≡ number.old + length (pattern_variables (pattern (λ a. a) pat.now))) }
+    ensures tree { IfOk result (λ bound. pattern itself bound ≡ numbered_pattern (known tops.now) number.old (pattern itself pat.now)) }
+    ensures count { OnOk result (number.new ≡ number.old + length (pattern_variables (pattern itself pat.now))) }
 {
     match pat {
         Pat::Wild(at) => Ok(Pat::Wild(unnamed(*at))),
@@ -52,10 +53,10 @@ pub fn bind_row(
     number: &mut u32,
     pats: &[Pat<Span>],
 ) -> Result<Items<Pat<Bound>>, OutOfMemory>
-    ensures trees { IfOk result (λ bound. patterns (λ a. a) bound ≡ numbered_row (known tops.now) number.old (patterns (λ a. a) pats.now)) }
-    ensures parts { IfOk result (λ bound. pattern_parts (patterns (λ a. a) bound) ≡ numbered_parts (known tops.now) number.old (pattern_parts (patterns (λ a. a) pats.now))) }
-    ensures count { OnOk result (number.new ≡ number.old + length (row_variables (patterns (λ a. a) pats.now))) }
-    ensures parts_count { OnOk result (number.new ≡ number.old + length (parts_variables (pattern_parts (patterns (λ a. a) pats.now)))) }
+    ensures trees { IfOk result (λ bound. patterns itself bound ≡ numbered_row (known tops.now) number.old (patterns itself pats.now)) }
+    ensures parts { IfOk result (λ bound. pattern_parts (patterns itself bound) ≡ numbered_parts (known tops.now) number.old (pattern_parts (patterns itself pats.now))) }
+    ensures count { OnOk result (number.new ≡ number.old + length (row_variables (patterns itself pats.now))) }
+    ensures parts_count { OnOk result (number.new ≡ number.old + length (parts_variables (pattern_parts (patterns itself pats.now)))) }
 {
     let mut bound = Items::new(alloc);
     for pat in pats {
@@ -71,8 +72,8 @@ pub fn bind_new_pattern(
     scope: &mut Locals,
     pat: &Pat<Span>,
 ) -> Result<Pat<Bound>, OutOfMemory>
-    ensures tree { IfOk result (λ bound. pattern (λ a. a) bound ≡ bound_pattern (known tops.now) scope.old (pattern (λ a. a) pat.now)) }
-    ensures scope { OnOk result (scope.new ≡ inside (pattern (λ a. a) pat.now) scope.old) }
+    ensures tree { IfOk result (λ bound. pattern itself bound ≡ bound_pattern (known tops.now) scope.old (pattern itself pat.now)) }
+    ensures scope { OnOk result (scope.new ≡ inside (pattern itself pat.now) scope.old) }
 {
     let mut number = scope.depth();
     let bound = bind_pattern(alloc, tops, &mut number, pat)?;
@@ -87,8 +88,8 @@ pub fn bind_new_row(
     scope: &mut Locals,
     pats: &[Pat<Span>],
 ) -> Result<Items<Pat<Bound>>, OutOfMemory>
-    ensures trees { IfOk result (λ bound. patterns (λ a. a) bound ≡ bound_row (known tops.now) scope.old (patterns (λ a. a) pats.now)) }
-    ensures scope { OnOk result (scope.new ≡ inside_row (patterns (λ a. a) pats.now) scope.old) }
+    ensures trees { IfOk result (λ bound. patterns itself bound ≡ bound_row (known tops.now) scope.old (patterns itself pats.now)) }
+    ensures scope { OnOk result (scope.new ≡ inside_row (patterns itself pats.now) scope.old) }
 {
     let mut number = scope.depth();
     let bound = bind_row(alloc, tops, &mut number, pats)?;

@@ -1,5 +1,6 @@
 // Declarations and whole programs.
 ghost use Rattle.std.specs.Prelude.{◌≡◌, map, IfOk};
+ghost use Rattle.rw_tree.specs.Views.{itself};
 ghost use Rattle.rw_tree.specs.Declarations.{declaration, plain_program};
 ghost use Rattle.rw_scope_rules.specs.Bindings.{bound_declaration, bound_declarations, bound_program};
 ghost use Rattle.rw_scope_binding.specs.Numbered.{known};
@@ -23,7 +24,7 @@ fn bind_decl(
     number: u32,
     decl: &Decl<Span>,
 ) -> Result<Decl<Bound>, OutOfMemory>
-    ensures { IfOk result (λ bound. declaration (λ a. a) bound ≡ bound_declaration (known tops.now) number (declaration (λ a. a) decl.now)) }
+    ensures { IfOk result (λ bound. declaration itself bound ≡ bound_declaration (known tops.now) number (declaration itself decl.now)) }
 {
     match decl {
         Decl::Import(at, name) => Ok(Decl::Import(unnamed(*at), name.copied(alloc)?)),
@@ -51,7 +52,7 @@ fn bind_decls(
     tops: &Tops,
     decls: &[Decl<Span>],
 ) -> Result<Items<Decl<Bound>>, OutOfMemory>
-    ensures { IfOk result (λ bound. map (declaration (λ a. a)) bound ≡ bound_declarations (known tops.now) 0 (map (declaration (λ a. a)) decls.now)) }
+    ensures { IfOk result (λ bound. map (declaration itself) bound ≡ bound_declarations (known tops.now) 0 (map (declaration itself) decls.now)) }
 {
     let mut number = 0;
     let mut bound = Items::new(alloc);
@@ -65,7 +66,7 @@ fn bind_decls(
 /// to (Haskell 2010 Report, sections 3 and 4.4.3). No rule on names is asked for. A program with 2^32 declarations, or
 /// with as many names in scope at one place, counts as want of memory.
 pub fn bind(alloc: Global, program: &Program<Span>) -> Result<Program<Bound>, OutOfMemory>
-    ensures { IfOk result (λ bound. plain_program (λ a. a) bound ≡ bound_program (plain_program (λ a. a) program.now)) }
+    ensures { IfOk result (λ bound. plain_program itself bound ≡ bound_program (plain_program itself program.now)) }
 {
     let tops = fill(alloc, program.decls.as_slice())?;
     let decls = bind_decls(alloc, &tops, program.decls.as_slice())?;

@@ -1,6 +1,7 @@
 // E12: let groups in which a binding depends on itself (of Haskell 2010 Report, section 3.12, the groups without
 // recursion).
 ghost use Rattle.std.specs.Prelude.{◌≡◌, ◌++◌, IfOk, OnOk, map, flat_map};
+ghost use Rattle.rw_tree.specs.Views.{itself};
 ghost use Rattle.rw_tree.specs.Trees.{local_binding};
 ghost use Rattle.rw_tree.specs.Declarations.{plain_program};
 ghost use Rattle.rw_scope_rules.specs.Nodes.{program_nodes};
@@ -17,7 +18,7 @@ use std::alloc::Global;
 
 // Where a binding stands.
 fn place_of(binding: &Local<Bound>) -> Place
-    ensures { result ≡ binding_place (local_binding (λ a. a) binding.now) }
+    ensures { result ≡ binding_place (local_binding itself binding.now) }
 {
     match binding {
         Local::Sig(at, _, _) => at.span.first,
@@ -32,7 +33,7 @@ fn in_group(
     bindings: &[Local<Bound>],
     places: &mut Vec<Place>,
 ) -> Result<(), OutOfMemory>
-    ensures { OnOk result (places.new.items ≡ places.old.items ++ map binding_place (never_placed (map (local_binding (λ a. a)) bindings.now))) }
+    ensures { OnOk result (places.new.items ≡ places.old.items ++ map binding_place (never_placed (map (local_binding itself) bindings.now))) }
 {
     if bindings.is_empty() {
         return Ok(());
@@ -65,7 +66,7 @@ fn in_node(
 /// that are left when, again and again, a binding is taken away that mentions no name which a binding of the group that is
 /// left binds, in the order of the group; the groups in the order of the program.
 pub fn cyclic(alloc: Global, bound: &Program<Bound>) -> Result<Vec<Place>, OutOfMemory>
-    ensures { IfOk result (λ places. places.items ≡ flat_map cyclic_in_node (program_nodes (plain_program (λ a. a) bound.now))) }
+    ensures { IfOk result (λ places. places.items ≡ flat_map cyclic_in_node (program_nodes (plain_program itself bound.now))) }
 {
     let found = nodes(alloc, bound)?;
     let mut places = Vec::new(alloc);

@@ -1,5 +1,6 @@
 // The graph of a group: each binding waits for the bindings that bind a name that stands in it, perhaps for itself.
 ghost use Rattle.std.specs.Prelude.{◌≡◌, IfOk, map, flat_map};
+ghost use Rattle.rw_tree.specs.Views.{itself};
 ghost use Rattle.rw_tree.specs.Trees.{local_binding};
 ghost use Rattle.rw_scope_rules.specs.Groups.{mentioned_numbers};
 ghost use Rattle.rw_scope_groups.specs.Rows.{found_in, group_graph};
@@ -14,7 +15,7 @@ use std::alloc::Global;
 
 // What a binding waits for.
 fn row(alloc: Global, table: &Owners, binding: &Local<Bound>) -> Result<Items<u32>, OutOfMemory>
-    ensures { IfOk result (λ row. row ≡ flat_map (found_in table.now) (mentioned_numbers (local_binding (λ a. a) binding.now))) }
+    ensures { IfOk result (λ row. row ≡ flat_map (found_in table.now) (mentioned_numbers (local_binding itself binding.now))) }
 {
     let wants = mentioned(alloc, binding)?;
     let mut row = Items::new(alloc);
@@ -30,7 +31,7 @@ fn rows(
     table: &Owners,
     bindings: &[Local<Bound>],
 ) -> Result<Items<Items<u32>>, OutOfMemory>
-    ensures { IfOk result (λ rows. rows ≡ map (λ b. flat_map (found_in table.now) (mentioned_numbers b)) (map (local_binding (λ a. a)) bindings.now)) }
+    ensures { IfOk result (λ rows. rows ≡ map (λ b. flat_map (found_in table.now) (mentioned_numbers b)) (map (local_binding itself) bindings.now)) }
 {
     let mut rows = Items::new(alloc);
     for binding in bindings {
@@ -41,7 +42,7 @@ fn rows(
 
 // The graph of a group.
 pub fn waiting(alloc: Global, bindings: &[Local<Bound>]) -> Result<Items<Items<u32>>, OutOfMemory>
-    ensures { IfOk result (λ graph. graph ≡ group_graph (map (local_binding (λ a. a)) bindings.now)) }
+    ensures { IfOk result (λ graph. graph ≡ group_graph (map (local_binding itself) bindings.now)) }
 {
     let table = owners_in(alloc, bindings)?;
     rows(alloc, &table, bindings)

@@ -1,5 +1,6 @@
 // The numbers of local names: those that a binding binds, and those that stand in it.
 ghost use Rattle.std.specs.Prelude.{◌≡◌, ◌++◌, IfOk, OnOk, flat_map};
+ghost use Rattle.rw_tree.specs.Views.{itself};
 ghost use Rattle.rw_tree.specs.Patterns.{pattern};
 ghost use Rattle.rw_tree.specs.Trees.{expression, local_binding};
 ghost use Rattle.rw_scope_rules.specs.Groups.{number_of as numbers_of_name, own_numbers, mentioned_in_node, mentioned_numbers};
@@ -59,7 +60,7 @@ fn all_bound(alloc: Global, nodes: &[Node<'_, Bound>]) -> Result<Items<u32>, Out
 
 // The numbers that a binding binds: a signature binds none.
 pub fn own(alloc: Global, binding: &Local<Bound>) -> Result<Items<u32>, OutOfMemory>
-    ensures { IfOk result (λ numbers. numbers ≡ own_numbers (local_binding (λ a. a) binding.now)) }
+    ensures { IfOk result (λ numbers. numbers ≡ own_numbers (local_binding itself binding.now)) }
 {
     match binding {
         Local::Sig(_, _, _) => Ok(Items::new(alloc)),
@@ -77,7 +78,7 @@ pub fn own(alloc: Global, binding: &Local<Bound>) -> Result<Items<u32>, OutOfMem
 
 // The numbers of the local names that stand in a binding.
 pub fn mentioned(alloc: Global, binding: &Local<Bound>) -> Result<Items<u32>, OutOfMemory>
-    ensures { IfOk result (λ numbers. numbers ≡ mentioned_numbers (local_binding (λ a. a) binding.now)) }
+    ensures { IfOk result (λ numbers. numbers ≡ mentioned_numbers (local_binding itself binding.now)) }
 {
     let found = nodes_of_binding(alloc, binding)?;
     let mut numbers = Items::new(alloc);

@@ -1,5 +1,6 @@
 // Which bindings of a group bind a number.
 ghost use Rattle.std.specs.Prelude.{◌≡◌, ◌++◌, ◌∷◌, [], ℕ, nat_eq, IfOk, OnOk, map, if◌then◌else◌};
+ghost use Rattle.rw_tree.specs.Views.{itself};
 ghost use Rattle.rw_tree.specs.Trees.{local_binding};
 ghost use Rattle.rw_scope_rules.specs.Groups.{own_numbers};
 ghost use Rattle.rw_scope_groups.specs.Rows.{owners as owners_from, owners_here, found_in};
@@ -84,7 +85,7 @@ fn add_slice(places: &mut Items<u32>, more: &[u32]) -> Result<(), OutOfMemory>
 
 // What the bindings of a group bind.
 pub fn owners_in(alloc: Global, bindings: &[Local<Bound>]) -> Result<Owners, OutOfMemory>
-    ensures { IfOk result (λ made. (k : ℕ) → found_in made k ≡ owners_from k 0 (map own_numbers (map (local_binding (λ a. a)) bindings.now))) }
+    ensures { IfOk result (λ made. (k : ℕ) → found_in made k ≡ owners_from k 0 (map own_numbers (map (local_binding itself) bindings.now))) }
 {
     let mut made = Owners::new(alloc);
     for (i, binding) in bindings.iter().enumerate() {

@@ -1,5 +1,6 @@
 // The data types of a program, and the graph of what their fields mention, in an argument too.
 ghost use Rattle.std.specs.Prelude.{◌≡◌, ◌++◌, List, IfOk, OnOk, map, flat_map};
+ghost use Rattle.rw_tree.specs.Views.{itself};
 ghost use Rattle.rw_tree.specs.Types.{written, writtens, type_parts};
 ghost use Rattle.rw_tree.specs.Declarations.{declaration, plain_constructor};
 ghost use Rattle.rw_scope_rules.specs.Names.{Bytes, first_named};
@@ -21,7 +22,7 @@ pub struct Made<'a> {
 
 // The data types of these declarations, in order.
 pub fn data_types<'a>(alloc: Global, decls: &'a [Decl<Span>]) -> Result<Vec<Made<'a>>, OutOfMemory>
-    ensures { IfOk result (λ all. map plain_made all.items ≡ flat_map made_of (map (declaration (λ a. a)) decls.now)) }
+    ensures { IfOk result (λ all. map plain_made all.items ≡ flat_map made_of (map (declaration itself) decls.now)) }
 {
     let mut all = Vec::new(alloc);
     for decl in decls {

@@ -1,6 +1,7 @@
 // E11: data types that are recursive or empty (Haskell 2010 Report, section 4.2.1).
 ghost use Rattle.std.specs.Prelude.{◌≡◌, ◌||◌, IfOk, flat_map, map};
 ghost use Rattle.rw_scope_graph.specs.Waiting.{marked};
+ghost use Rattle.rw_tree.specs.Views.{itself};
 ghost use Rattle.rw_tree.specs.Declarations.{plain_program};
 ghost use Rattle.rw_scope_rules.specs.Kinds.{is_empty, recursive_or_empty as recursive_or_empty_of};
 ghost use Rattle.rw_scope_kinds.specs.Mentions.{ill_by, is_marked_by, plain_made};
@@ -56,7 +57,7 @@ fn ill_places(
 /// The places of the data types that have no constructor, or mention themselves in the type of a field, be it as an argument
 /// or by way of other data types, in the order of the program.
 pub fn recursive_or_empty(alloc: Global, program: &Program<Span>) -> Result<Vec<Place>, OutOfMemory>
-    ensures { IfOk result (λ places. places.items ≡ recursive_or_empty_of (plain_program (λ a. a) program.now)) }
+    ensures { IfOk result (λ places. places.items ≡ recursive_or_empty_of (plain_program itself program.now)) }
 {
     let all = data_types(alloc, program.decls.as_slice())?;
     let table = numbers(alloc, all.as_slice())?;

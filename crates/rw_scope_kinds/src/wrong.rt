@@ -1,6 +1,7 @@
 // E10: types of a wrong kind (Haskell 2010 Report, section 4.6), in fields and in signatures.
 ghost use Rattle.std.specs.Prelude.{◌≡◌, ◌++◌, IfOk, OnOk, map, flat_map};
 ghost use Rattle.std.specs.List.{list_all};
+ghost use Rattle.rw_tree.specs.Views.{itself};
 ghost use Rattle.rw_tree.specs.Types.{written, writtens};
 ghost use Rattle.rw_tree.specs.Declarations.{declaration, plain_constructor, plain_program};
 ghost use Rattle.rw_scope_rules.specs.Scope.{fields_of};
@@ -74,7 +75,7 @@ fn in_declaration(
     decl: &Decl<Span>,
     places: &mut Vec<Place>,
 ) -> Result<(), OutOfMemory>
-    ensures { OnOk result (places.new.items ≡ places.old.items ++ wrong_in_declaration (fits_field fields.now) (fits_signature signatures.now) (declaration (λ a. a) decl.now)) }
+    ensures { OnOk result (places.new.items ≡ places.old.items ++ wrong_in_declaration (fits_field fields.now) (fits_signature signatures.now) (declaration itself decl.now)) }
 {
     match decl {
         Decl::Data(at, made) => {
@@ -101,7 +102,7 @@ fn in_declarations(
     decls: &[Decl<Span>],
     places: &mut Vec<Place>,
 ) -> Result<(), OutOfMemory>
-    ensures { OnOk result (places.new.items ≡ places.old.items ++ flat_map (wrong_in_declaration (fits_field fields.now) (fits_signature signatures.now)) (map (declaration (λ a. a)) decls.now)) }
+    ensures { OnOk result (places.new.items ≡ places.old.items ++ flat_map (wrong_in_declaration (fits_field fields.now) (fits_signature signatures.now)) (map (declaration itself) decls.now)) }
 {
     for decl in decls {
         in_declaration(alloc, fields, signatures, decl, places)?;
@@ -130,7 +131,7 @@ fn in_node(
 /// as types, of signatures whose type isn't of a right kind at top level, and of local signatures whose type isn't or has a
 /// variable; first those at top level, then those in functions, in the order of the program.
 pub fn misused(alloc: Global, program: &Program<Span>) -> Result<Vec<Place>, OutOfMemory>
-    ensures { IfOk result (λ places. places.items ≡ misused_of (plain_program (λ a. a) program.now)) }
+    ensures { IfOk result (λ places. places.items ≡ misused_of (plain_program itself program.now)) }
 {
     let decls = program.decls.as_slice();
     let fields = of_fields(alloc, decls)?;

@@ -2,6 +2,7 @@
 use Rattle.std.proofs.Common.{◌≡◌, ◌≢◌, ◌∙◌, ℕ, ◌+◌, ◌<◌, refl, sym, ap, List, [], ◌∷◌, ◌++◌, drop, get_or, length, arith, map, flat_map, Bool, true, false, ◌||◌, ◌&&◌}
 use Rattle.std.proofs.lemmas.Grind.{common_steps}
 use Rattle.rw_base.specs.declared.place.Span.{Span}
+use Rattle.rw_tree.specs.Views.{itself}
 use Rattle.rw_tree.specs.declared.types.Written.{Written}
 use Rattle.rw_tree.specs.declared.decl.DataDecl.{DataDecl}
 use Rattle.rw_tree.specs.declared.decl.Decl.{Decl}
@@ -39,26 +40,26 @@ or_between false b c = refl
 
 -- the names of one declaration more are put in: what is left is left behind these
 pub declared_put : (names_at : Declaration Span → List (Bytes × Span)) (decls : List (Decl Span)) (i : ℕ) (d : Decl Span) (now old added : List Bytes) (x : Bytes) (whole : Bool)
-    → i < length decls → d ≡ get_or decls i d → names_of (names_at (declaration (λ a. a) d)) ≡ added → is_among x now ≡ (is_among x added || is_among x old)
-    → (is_among x (names_of (flat_map names_at (map (declaration (λ a. a)) (drop i decls)))) || is_among x old) ≡ whole
-    → (is_among x (names_of (flat_map names_at (map (declaration (λ a. a)) (drop (i + 1) decls)))) || is_among x now) ≡ whole
+    → i < length decls → d ≡ get_or decls i d → names_of (names_at (declaration itself d)) ≡ added → is_among x now ≡ (is_among x added || is_among x old)
+    → (is_among x (names_of (flat_map names_at (map (declaration itself) (drop i decls)))) || is_among x old) ≡ whole
+    → (is_among x (names_of (flat_map names_at (map (declaration itself) (drop (i + 1) decls)))) || is_among x now) ≡ whole
 declared_put names_at decls i d now old added x whole within read same told so_far =
     let next : drop i decls ≡ d ∷ drop (i + 1) decls = grind (arith, common_steps) in
-    let left = flat_map names_at (map (declaration (λ a. a)) (drop (i + 1) decls)) in
-    let here = names_at (declaration (λ a. a) d) in
+    let left = flat_map names_at (map (declaration itself) (drop (i + 1) decls)) in
+    let here = names_at (declaration itself d) in
     ap (λ v. is_among x (names_of left) || v) told ∙ or_between (is_among x added) (is_among x (names_of left)) (is_among x old)
     ∙ ap (λ v. v || is_among x old) (sym (ap (is_among x) (names_of-append here left ∙ ap (λ ns. ns ++ names_of left) same) ∙ is_among-append x added (names_of left)))
-    ∙ ap (λ ds. is_among x (names_of (flat_map names_at (map (declaration (λ a. a)) ds))) || is_among x old) (sym next) ∙ so_far
+    ∙ ap (λ ds. is_among x (names_of (flat_map names_at (map (declaration itself) ds))) || is_among x old) (sym next) ∙ so_far
 
 -- a declaration that is no data type has no constructors, and one that is no signature none
-pub no_constructors : (d : Decl Span) → ((a : Span) (made : DataDecl) → d ≢ Data a made) → constructors_at (declaration (λ a. a) d) ≡ []
+pub no_constructors : (d : Decl Span) → ((a : Span) (made : DataDecl) → d ≢ Data a made) → constructors_at (declaration itself d) ≡ []
 no_constructors (Import a m) h = refl
 no_constructors (Data a made) h = absurd (h a made refl)
 no_constructors (Fixity a side strength names) h = refl
 no_constructors (Sig a names type) h = refl
 no_constructors (Fun a x clauses) h = refl
 
-pub no_signatures : (d : Decl Span) → ((a : Span) (names : List Bytes) (type : Written) → d ≢ Sig a names type) → signatures_at (declaration (λ a. a) d) ≡ []
+pub no_signatures : (d : Decl Span) → ((a : Span) (names : List Bytes) (type : Written) → d ≢ Sig a names type) → signatures_at (declaration itself d) ≡ []
 no_signatures (Import a m) h = refl
 no_signatures (Data a made) h = refl
 no_signatures (Fixity a side strength names) h = refl

@@ -1,5 +1,6 @@
 // E08: every name is bound (Haskell 2010 Report, sections 3.2, 3.17.1, 4.1.2, 4.2.1, 4.4.1 and 4.4.2).
 ghost use Rattle.std.specs.Prelude.{◌≡◌, ◌++◌, ◌&&◌, List, IfOk, OnOk, flat_map, map};
+ghost use Rattle.rw_tree.specs.Views.{itself};
 ghost use Rattle.rw_tree.specs.Declarations.{declaration, plain_constructor, plain_program};
 ghost use Rattle.rw_tree.specs.Patterns.{pattern};
 ghost use Rattle.rw_tree.specs.Trees.{expression, local_binding};
@@ -38,7 +39,7 @@ fn see_declaration(
     places: &mut Vec<Place>,
     decl: &Decl<Span>,
 ) -> Result<(), OutOfMemory>
-    ensures { OnOk result (places.new.items ≡ places.old.items ++ unbound_in_declaration types.now operators.now (declaration (λ a. a) decl.now)) }
+    ensures { OnOk result (places.new.items ≡ places.old.items ++ unbound_in_declaration types.now operators.now (declaration itself decl.now)) }
 {
     match decl {
         Decl::Data(at, made) => {
@@ -61,7 +62,7 @@ fn see_declarations(
     places: &mut Vec<Place>,
     decls: &[Decl<Span>],
 ) -> Result<(), OutOfMemory>
-    ensures { OnOk result (places.new.items ≡ places.old.items ++ flat_map (unbound_in_declaration types.now operators.now) (map (declaration (λ a. a)) decls.now)) }
+    ensures { OnOk result (places.new.items ≡ places.old.items ++ flat_map (unbound_in_declaration types.now operators.now) (map (declaration itself) decls.now)) }
 {
     for decl in decls {
         see_declaration(alloc, types, operators, places, decl)?;
@@ -82,7 +83,7 @@ fn see_name(places: &mut Vec<Place>, at: Bound) -> Result<(), OutOfMemory>
 
 // That of a variable, an operator or a constructor.
 fn see_expression(places: &mut Vec<Place>, tree: &Expr<Bound>) -> Result<(), OutOfMemory>
-    ensures { OnOk result ((types : List Bytes) → places.new.items ≡ places.old.items ++ unbound_in_node types (expression_node (expression (λ a. a) tree.now))) }
+    ensures { OnOk result ((types : List Bytes) → places.new.items ≡ places.old.items ++ unbound_in_node types (expression_node (expression itself tree.now))) }
 {
     match tree {
         Expr::Var(at, _) => see_name(places, *at),
@@ -93,7 +94,7 @@ fn see_expression(places: &mut Vec<Place>, tree: &Expr<Bound>) -> Result<(), Out
 
 // That of a constructor in a pattern.
 fn see_pattern(places: &mut Vec<Place>, tree: &Pat<Bound>) -> Result<(), OutOfMemory>
-    ensures { OnOk result ((types : List Bytes) → places.new.items ≡ places.old.items ++ unbound_in_node types (pattern_node (pattern (λ a. a) tree.now))) }
+    ensures { OnOk result ((types : List Bytes) → places.new.items ≡ places.old.items ++ unbound_in_node types (pattern_node (pattern itself tree.now))) }
 {
     match tree {
         Pat::Con(at, _, _) => see_name(places, *at),
@@ -107,7 +108,7 @@ fn see_local(
     places: &mut Vec<Place>,
     local: &Local<Bound>,
 ) -> Result<(), OutOfMemory>
-    ensures { OnOk result (places.new.items ≡ places.old.items ++ unbound_in_node types.now (binding_node (local_binding (λ a. a) local.now))) }
+    ensures { OnOk result (places.new.items ≡ places.old.items ++ unbound_in_node types.now (binding_node (local_binding itself local.now))) }
 {
     match local {
         Local::Sig(at, _, written) => {
@@ -140,7 +141,7 @@ fn see_inside(
     places: &mut Vec<Place>,
     bound: &Program<Bound>,
 ) -> Result<(), OutOfMemory>
-    ensures { OnOk result (places.new.items ≡ places.old.items ++ flat_map (unbound_in_node types.now) (program_nodes (plain_program (λ a. a) bound.now))) }
+    ensures { OnOk result (places.new.items ≡ places.old.items ++ flat_map (unbound_in_node types.now) (program_nodes (plain_program itself bound.now))) }
 {
     let found = nodes(alloc, bound)?;
     for node in found.as_slice() {
@@ -158,7 +159,7 @@ pub fn unbound(
     program: &Program<Span>,
     bound: &Program<Bound>,
 ) -> Result<Vec<Place>, OutOfMemory>
-    ensures { plain_program (λ a. a) bound.now ≡ bound_program (plain_program (λ a. a) program.now) → IfOk result (λ places. places.items ≡ unbound_in (plain_program (λ a. a) program.now)) }
+    ensures { plain_program itself bound.now ≡ bound_program (plain_program itself program.now) → IfOk result (λ places. places.items ≡ unbound_in (plain_program itself program.now)) }
 {
     let decls = program.decls.as_slice();
     let types = known_types(alloc, decls)?;

@@ -1,5 +1,6 @@
 // The names that declarations declare, as sets.
 ghost use Rattle.std.specs.Prelude.{◌≡◌, ◌||◌, OnOk, flat_map, map};
+ghost use Rattle.rw_tree.specs.Views.{itself};
 ghost use Rattle.rw_tree.specs.Declarations.{declaration, plain_constructor};
 ghost use Rattle.rw_scope_rules.specs.Names.{Bytes, is_among};
 ghost use Rattle.rw_scope_rules.specs.Bindings.{names_of};
@@ -36,7 +37,7 @@ pub fn put_functions(
     set: &mut Names,
     decls: &[Decl<Span>],
 ) -> Result<(), OutOfMemory>
-    ensures { OnOk result ((x : Bytes) → is_among x set.new ≡ (is_among x (names_of (flat_map functions_at (map (declaration (λ a. a)) decls.now))) || is_among x set.old)) }
+    ensures { OnOk result ((x : Bytes) → is_among x set.new ≡ (is_among x (names_of (flat_map functions_at (map (declaration itself) decls.now))) || is_among x set.old)) }
 {
     for decl in decls {
         if let Decl::Fun(_, name, _) = decl {
@@ -52,7 +53,7 @@ pub fn put_signatures(
     set: &mut Names,
     decls: &[Decl<Span>],
 ) -> Result<(), OutOfMemory>
-    ensures { OnOk result ((x : Bytes) → is_among x set.new ≡ (is_among x (names_of (flat_map signatures_at (map (declaration (λ a. a)) decls.now))) || is_among x set.old)) }
+    ensures { OnOk result ((x : Bytes) → is_among x set.new ≡ (is_among x (names_of (flat_map signatures_at (map (declaration itself) decls.now))) || is_among x set.old)) }
 {
     for decl in decls {
         if let Decl::Sig(_, names, _) = decl {
@@ -64,7 +65,7 @@ pub fn put_signatures(
 
 // Puts in the data types of these declarations.
 pub fn put_types(alloc: Global, set: &mut Names, decls: &[Decl<Span>]) -> Result<(), OutOfMemory>
-    ensures { OnOk result ((x : Bytes) → is_among x set.new ≡ (is_among x (names_of (flat_map types_at (map (declaration (λ a. a)) decls.now))) || is_among x set.old)) }
+    ensures { OnOk result ((x : Bytes) → is_among x set.new ≡ (is_among x (names_of (flat_map types_at (map (declaration itself) decls.now))) || is_among x set.old)) }
 {
     for decl in decls {
         if let Decl::Data(_, made) = decl {
@@ -80,7 +81,7 @@ pub fn put_constructors(
     set: &mut Names,
     decls: &[Decl<Span>],
 ) -> Result<(), OutOfMemory>
-    ensures { OnOk result ((x : Bytes) → is_among x set.new ≡ (is_among x (names_of (flat_map constructors_at (map (declaration (λ a. a)) decls.now))) || is_among x set.old)) }
+    ensures { OnOk result ((x : Bytes) → is_among x set.new ≡ (is_among x (names_of (flat_map constructors_at (map (declaration itself) decls.now))) || is_among x set.old)) }
 {
     for decl in decls {
         if let Decl::Data(_, made) = decl {

@@ -1,6 +1,7 @@
 // E07: one declaration for a name, inside functions and as a whole (Haskell 2010 Report, sections 3.3, 3.12, 3.14, 3.17.1
 // and 4.4.3).
 ghost use Rattle.std.specs.Prelude.{◌≡◌, ◌++◌, IfOk, OnOk, flat_map, map};
+ghost use Rattle.rw_tree.specs.Views.{itself};
 ghost use Rattle.rw_tree.specs.Declarations.{plain_program};
 ghost use Rattle.rw_tree.specs.Trees.{binding_parts, expression, local_binding, statement};
 ghost use Rattle.rw_scope_rules.specs.Nodes.{expression_node, group_node, program_nodes, statement_node};
@@ -20,7 +21,7 @@ fn see_expression(
     places: &mut Vec<Place>,
     tree: &Expr<Span>,
 ) -> Result<(), OutOfMemory>
-    ensures { OnOk result (places.new.items ≡ places.old.items ++ repeated_in_node (expression_node (expression (λ a. a) tree.now))) }
+    ensures { OnOk result (places.new.items ≡ places.old.items ++ repeated_in_node (expression_node (expression itself tree.now))) }
 {
     match tree {
         Expr::Lambda(_, pats, _) => see_one_row(alloc, places, pats.as_slice()),
@@ -34,7 +35,7 @@ fn see_statement(
     places: &mut Vec<Place>,
     tree: &Stmt<Span>,
 ) -> Result<(), OutOfMemory>
-    ensures { OnOk result (places.new.items ≡ places.old.items ++ repeated_in_node (statement_node (statement (λ a. a) tree.now))) }
+    ensures { OnOk result (places.new.items ≡ places.old.items ++ repeated_in_node (statement_node (statement itself tree.now))) }
 {
     match tree {
         Stmt::Bind(_, pat, _) => see_one_pattern(alloc, places, pat),
@@ -48,7 +49,7 @@ fn see_group(
     places: &mut Vec<Place>,
     locals: &[Local<Span>],
 ) -> Result<(), OutOfMemory>
-    ensures { OnOk result (places.new.items ≡ places.old.items ++ repeated_in_node (group_node (binding_parts (map (local_binding (λ a. a)) locals.now)))) }
+    ensures { OnOk result (places.new.items ≡ places.old.items ++ repeated_in_node (group_node (binding_parts (map (local_binding itself) locals.now)))) }
 {
     see_bindings(alloc, places, locals)?;
     see_signatures(alloc, places, locals)
@@ -74,7 +75,7 @@ pub fn repeated_in_functions(
     alloc: Global,
     program: &Program<Span>,
 ) -> Result<Vec<Place>, OutOfMemory>
-    ensures { IfOk result (λ places. places.items ≡ flat_map repeated_in_node (program_nodes (plain_program (λ a. a) program.now))) }
+    ensures { IfOk result (λ places. places.items ≡ flat_map repeated_in_node (program_nodes (plain_program itself program.now))) }
 {
     let mut places = Vec::new(alloc);
     let found = nodes(alloc, program)?;
@@ -87,7 +88,7 @@ pub fn repeated_in_functions(
 /// The places at which a program breaks E07: those of the top level and of the heads of data types, and then those inside
 /// functions.
 pub fn declared_twice(alloc: Global, program: &Program<Span>) -> Result<Vec<Place>, OutOfMemory>
-    ensures { IfOk result (λ places. places.items ≡ twice_in (plain_program (λ a. a) program.now)) }
+    ensures { IfOk result (λ places. places.items ≡ twice_in (plain_program itself program.now)) }
 {
     let mut places = repeated_at_top(alloc, program.decls.as_slice())?;
     let inside = repeated_in_functions(alloc, program)?;

@@ -1,6 +1,7 @@
 // E09: signatures and bindings pair, and the clauses of one name have one number of patterns (Haskell 2010 Report, sections
 // 4.4.1 and 4.4.3.1).
 ghost use Rattle.std.specs.Prelude.{◌≡◌, ◌++◌, IfOk, OnOk, flat_map, map};
+ghost use Rattle.rw_tree.specs.Views.{itself};
 ghost use Rattle.rw_tree.specs.Declarations.{declaration, plain_program};
 ghost use Rattle.rw_scope_rules.specs.Scope.{alone, unpaired as unpaired_in};
 
@@ -19,7 +20,7 @@ fn see_alone(
     places: &mut Vec<Place>,
     decl: &Decl<Span>,
 ) -> Result<(), OutOfMemory>
-    ensures { OnOk result (places.new.items ≡ places.old.items ++ alone functions.now signatures.now (declaration (λ a. a) decl.now)) }
+    ensures { OnOk result (places.new.items ≡ places.old.items ++ alone functions.now signatures.now (declaration itself decl.now)) }
 {
     match decl {
         Decl::Sig(at, names, _) => { push_if(places, !functions.have(names.as_slice()), at.first) }
@@ -35,7 +36,7 @@ fn see_all_alone(
     places: &mut Vec<Place>,
     decls: &[Decl<Span>],
 ) -> Result<(), OutOfMemory>
-    ensures { OnOk result (places.new.items ≡ places.old.items ++ flat_map (alone functions.now signatures.now) (map (declaration (λ a. a)) decls.now)) }
+    ensures { OnOk result (places.new.items ≡ places.old.items ++ flat_map (alone functions.now signatures.now) (map (declaration itself) decls.now)) }
 {
     for decl in decls {
         see_alone(functions, signatures, places, decl)?;
@@ -47,7 +48,7 @@ fn see_all_alone(
 /// without a signature, at top level; and clauses of another number of patterns than the first of their name, at top level
 /// and then in let groups.
 pub fn unpaired(alloc: Global, program: &Program<Span>) -> Result<Vec<Place>, OutOfMemory>
-    ensures { IfOk result (λ places. places.items ≡ unpaired_in (plain_program (λ a. a) program.now)) }
+    ensures { IfOk result (λ places. places.items ≡ unpaired_in (plain_program itself program.now)) }
 {
     let decls = program.decls.as_slice();
     let mut functions = Names::new(alloc);

@@ -2,6 +2,7 @@
 // data types (Haskell 2010 Report, sections 4.4 and 5).
 ghost use Rattle.std.specs.Prelude.{◌≡◌, ◌++◌, [], List, OnOk, IfOk, map, flat_map};
 ghost use Rattle.rw_base.specs.declared.place.Span.{Span as PlainSpan};
+ghost use Rattle.rw_tree.specs.Views.{itself};
 ghost use Rattle.rw_tree.specs.Declarations.{declaration, plain_constructor};
 ghost use Rattle.rw_scope_rules.specs.Names.{Bytes, repeated};
 ghost use Rattle.rw_scope_rules.specs.Scope.{constructors_at, fixities_at, functions_at, repeated_at_top as repeated_of, repeated_in_head, signatures_at, types_at, spread};
@@ -49,7 +50,7 @@ fn see_functions(
     places: &mut Vec<Place>,
     decls: &[Decl<Span>],
 ) -> Result<(), OutOfMemory>
-    ensures { OnOk result (places.new.items ≡ places.old.items ++ repeated seen.old (flat_map functions_at (map (declaration (λ a. a)) decls.now))) }
+    ensures { OnOk result (places.new.items ≡ places.old.items ++ repeated seen.old (flat_map functions_at (map (declaration itself) decls.now))) }
 {
     for decl in decls {
         if let Decl::Fun(at, name, _) = decl {
@@ -66,7 +67,7 @@ fn see_types(
     places: &mut Vec<Place>,
     decls: &[Decl<Span>],
 ) -> Result<(), OutOfMemory>
-    ensures { OnOk result (places.new.items ≡ places.old.items ++ repeated seen.old (flat_map types_at (map (declaration (λ a. a)) decls.now))) }
+    ensures { OnOk result (places.new.items ≡ places.old.items ++ repeated seen.old (flat_map types_at (map (declaration itself) decls.now))) }
 {
     for decl in decls {
         if let Decl::Data(at, made) = decl {
@@ -83,7 +84,7 @@ fn see_all_constructors(
     places: &mut Vec<Place>,
     decls: &[Decl<Span>],
 ) -> Result<(), OutOfMemory>
-    ensures { OnOk result (places.new.items ≡ places.old.items ++ repeated seen.old (flat_map constructors_at (map (declaration (λ a. a)) decls.now))) }
+    ensures { OnOk result (places.new.items ≡ places.old.items ++ repeated seen.old (flat_map constructors_at (map (declaration itself) decls.now))) }
 {
     for decl in decls {
         if let Decl::Data(at, made) = decl {
@@ -100,7 +101,7 @@ fn see_signatures(
     places: &mut Vec<Place>,
     decls: &[Decl<Span>],
 ) -> Result<(), OutOfMemory>
-    ensures { OnOk result (places.new.items ≡ places.old.items ++ repeated seen.old (flat_map signatures_at (map (declaration (λ a. a)) decls.now))) }
+    ensures { OnOk result (places.new.items ≡ places.old.items ++ repeated seen.old (flat_map signatures_at (map (declaration itself) decls.now))) }
 {
     for decl in decls {
         if let Decl::Sig(at, names, _) = decl {
@@ -117,7 +118,7 @@ fn see_fixities(
     places: &mut Vec<Place>,
     decls: &[Decl<Span>],
 ) -> Result<(), OutOfMemory>
-    ensures { OnOk result (places.new.items ≡ places.old.items ++ repeated seen.old (flat_map fixities_at (map (declaration (λ a. a)) decls.now))) }
+    ensures { OnOk result (places.new.items ≡ places.old.items ++ repeated seen.old (flat_map fixities_at (map (declaration itself) decls.now))) }
 {
     for decl in decls {
         if let Decl::Fixity(at, _, _, names) = decl {
@@ -133,7 +134,7 @@ fn see_heads(
     places: &mut Vec<Place>,
     decls: &[Decl<Span>],
 ) -> Result<(), OutOfMemory>
-    ensures { OnOk result (places.new.items ≡ places.old.items ++ flat_map repeated_in_head (map (declaration (λ a. a)) decls.now)) }
+    ensures { OnOk result (places.new.items ≡ places.old.items ++ flat_map repeated_in_head (map (declaration itself) decls.now)) }
 {
     for decl in decls {
         if let Decl::Data(at, made) = decl {
@@ -147,7 +148,7 @@ fn see_heads(
 /// data type: variables behind the operations, types behind `I`, `ReT` and `StateT`, then constructors, signatures and
 /// fixities. Each kind is in the order of the program.
 pub fn repeated_at_top(alloc: Global, decls: &[Decl<Span>]) -> Result<Vec<Place>, OutOfMemory>
-    ensures { IfOk result (λ places. places.items ≡ repeated_of (map (declaration (λ a. a)) decls.now)) }
+    ensures { IfOk result (λ places. places.items ≡ repeated_of (map (declaration itself) decls.now)) }
 {
     let mut places = Vec::new(alloc);
     let mut variables = operations(alloc)?;

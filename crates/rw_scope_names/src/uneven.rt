@@ -1,5 +1,6 @@
 // E09: the clauses of one name have one number of patterns (Haskell 2010 Report, section 4.4.3.1).
 ghost use Rattle.std.specs.Prelude.{◌≡◌, ◌++◌, OnOk, flat_map, map, nat_eq, not};
+ghost use Rattle.rw_tree.specs.Views.{itself};
 ghost use Rattle.rw_tree.specs.Declarations.{declaration, plain_program};
 ghost use Rattle.rw_tree.specs.Trees.{alternative_of, local_binding};
 ghost use Rattle.rw_scope_rules.specs.Names.{at_if};
@@ -19,7 +20,7 @@ fn see_others(
     count: usize,
     clauses: &[Alt<Span>],
 ) -> Result<(), OutOfMemory>
-    ensures { OnOk result (places.new.items ≡ places.old.items ++ flat_map (λ d. at_if (not (nat_eq (arity d) count)) (clause_place d)) (map (alternative_of (λ a. a)) clauses.now)) }
+    ensures { OnOk result (places.new.items ≡ places.old.items ++ flat_map (λ d. at_if (not (nat_eq (arity d) count)) (clause_place d)) (map (alternative_of itself) clauses.now)) }
 {
     for clause in clauses {
         push_if(places, clause.pats.len() != count, clause.at.first)?;
@@ -29,7 +30,7 @@ fn see_others(
 
 // The clauses of one name that have another number of patterns than the first.
 fn see_uneven(places: &mut Vec<Place>, clauses: &[Alt<Span>]) -> Result<(), OutOfMemory>
-    ensures { OnOk result (places.new.items ≡ places.old.items ++ uneven (map (alternative_of (λ a. a)) clauses.now)) }
+    ensures { OnOk result (places.new.items ≡ places.old.items ++ uneven (map (alternative_of itself) clauses.now)) }
 {
     match clauses.split_first() {
         None => Ok(()),
@@ -39,7 +40,7 @@ fn see_uneven(places: &mut Vec<Place>, clauses: &[Alt<Span>]) -> Result<(), OutO
 
 // Those of the functions among these declarations.
 pub fn see_at_top(places: &mut Vec<Place>, decls: &[Decl<Span>]) -> Result<(), OutOfMemory>
-    ensures { OnOk result (places.new.items ≡ places.old.items ++ flat_map uneven_at_top (map (declaration (λ a. a)) decls.now)) }
+    ensures { OnOk result (places.new.items ≡ places.old.items ++ flat_map uneven_at_top (map (declaration itself) decls.now)) }
 {
     for decl in decls {
         if let Decl::Fun(_, _, clauses) = decl {
@@ -51,7 +52,7 @@ pub fn see_at_top(places: &mut Vec<Place>, decls: &[Decl<Span>]) -> Result<(), O
 
 // Those of a local function.
 fn see_local(places: &mut Vec<Place>, local: &Local<Span>) -> Result<(), OutOfMemory>
-    ensures { OnOk result (places.new.items ≡ places.old.items ++ uneven_in_node (binding_node (local_binding (λ a. a) local.now))) }
+    ensures { OnOk result (places.new.items ≡ places.old.items ++ uneven_in_node (binding_node (local_binding itself local.now))) }
 {
     match local {
         Local::Fun(_, _, clauses) => see_uneven(places, clauses.as_slice()),
@@ -75,7 +76,7 @@ pub fn see_inside(
     places: &mut Vec<Place>,
     program: &Program<Span>,
 ) -> Result<(), OutOfMemory>
-    ensures { OnOk result (places.new.items ≡ places.old.items ++ flat_map uneven_in_node (program_nodes (plain_program (λ a. a) program.now))) }
+    ensures { OnOk result (places.new.items ≡ places.old.items ++ flat_map uneven_in_node (program_nodes (plain_program itself program.now))) }
 {
     let found = nodes(alloc, program)?;
     for node in found.as_slice() {

@@ -2,6 +2,7 @@
 // 4.4.3).
 ghost use Rattle.std.specs.Prelude.{◌≡◌, ◌++◌, [], List, OnOk, map};
 ghost use Rattle.rw_base.specs.declared.place.Span.{Span as PlainSpan};
+ghost use Rattle.rw_tree.specs.Views.{itself};
 ghost use Rattle.rw_tree.specs.Patterns.{pattern, pattern_parts, patterns};
 ghost use Rattle.rw_tree.specs.Trees.{binding_parts, local_binding};
 ghost use Rattle.rw_scope_rules.specs.Names.{Bytes, repeated};
@@ -23,7 +24,7 @@ fn see_pattern(
     places: &mut Vec<Place>,
     pat: &Pat<Span>,
 ) -> Result<(), OutOfMemory>
-    ensures { OnOk result ((rest : List (Bytes × PlainSpan)) → places.new.items ++ repeated seen.new rest ≡ places.old.items ++ repeated seen.old (pattern_variables (pattern (λ a. a) pat.now) ++ rest)) }
+    ensures { OnOk result ((rest : List (Bytes × PlainSpan)) → places.new.items ++ repeated seen.new rest ≡ places.old.items ++ repeated seen.old (pattern_variables (pattern itself pat.now) ++ rest)) }
 {
     match pat {
         Pat::Wild(_) => Ok(()),
@@ -41,8 +42,8 @@ fn see_row(
     places: &mut Vec<Place>,
     pats: &[Pat<Span>],
 ) -> Result<(), OutOfMemory>
-    ensures row { OnOk result ((rest : List (Bytes × PlainSpan)) → places.new.items ++ repeated seen.new rest ≡ places.old.items ++ repeated seen.old (row_variables (patterns (λ a. a) pats.now) ++ rest)) }
-    ensures parts { OnOk result ((rest : List (Bytes × PlainSpan)) → places.new.items ++ repeated seen.new rest ≡ places.old.items ++ repeated seen.old (parts_variables (pattern_parts (patterns (λ a. a) pats.now)) ++ rest)) }
+    ensures row { OnOk result ((rest : List (Bytes × PlainSpan)) → places.new.items ++ repeated seen.new rest ≡ places.old.items ++ repeated seen.old (row_variables (patterns itself pats.now) ++ rest)) }
+    ensures parts { OnOk result ((rest : List (Bytes × PlainSpan)) → places.new.items ++ repeated seen.new rest ≡ places.old.items ++ repeated seen.old (parts_variables (pattern_parts (patterns itself pats.now)) ++ rest)) }
 {
     for pat in pats {
         see_pattern(alloc, seen, places, pat)?;
@@ -57,7 +58,7 @@ fn see_binding(
     places: &mut Vec<Place>,
     local: &Local<Span>,
 ) -> Result<(), OutOfMemory>
-    ensures { OnOk result ((rest : List (Bytes × PlainSpan)) → places.new.items ++ repeated seen.new rest ≡ places.old.items ++ repeated seen.old (binding_variables (local_binding (λ a. a) local.now) ++ rest)) }
+    ensures { OnOk result ((rest : List (Bytes × PlainSpan)) → places.new.items ++ repeated seen.new rest ≡ places.old.items ++ repeated seen.old (binding_variables (local_binding itself local.now) ++ rest)) }
 {
     match local {
         Local::Sig(_, _, _) => Ok(()),
@@ -73,7 +74,7 @@ fn see_signature(
     places: &mut Vec<Place>,
     local: &Local<Span>,
 ) -> Result<(), OutOfMemory>
-    ensures { OnOk result ((rest : List (Bytes × PlainSpan)) → places.new.items ++ repeated seen.new rest ≡ places.old.items ++ repeated seen.old (signature_of (local_binding (λ a. a) local.now) ++ rest)) }
+    ensures { OnOk result ((rest : List (Bytes × PlainSpan)) → places.new.items ++ repeated seen.new rest ≡ places.old.items ++ repeated seen.old (signature_of (local_binding itself local.now) ++ rest)) }
 {
     match local {
         Local::Sig(at, name, _) => see(alloc, seen, places, name, *at),
@@ -87,7 +88,7 @@ pub fn see_one_pattern(
     places: &mut Vec<Place>,
     pat: &Pat<Span>,
 ) -> Result<(), OutOfMemory>
-    ensures { OnOk result (places.new.items ≡ places.old.items ++ repeated [] (pattern_variables (pattern (λ a. a) pat.now))) }
+    ensures { OnOk result (places.new.items ≡ places.old.items ++ repeated [] (pattern_variables (pattern itself pat.now))) }
 {
     let mut seen = Names::new(alloc);
     see_pattern(alloc, &mut seen, places, pat)
@@ -99,7 +100,7 @@ pub fn see_one_row(
     places: &mut Vec<Place>,
     pats: &[Pat<Span>],
 ) -> Result<(), OutOfMemory>
-    ensures { OnOk result (places.new.items ≡ places.old.items ++ repeated [] (row_variables (patterns (λ a. a) pats.now))) }
+    ensures { OnOk result (places.new.items ≡ places.old.items ++ repeated [] (row_variables (patterns itself pats.now))) }
 {
     let mut seen = Names::new(alloc);
     see_row(alloc, &mut seen, places, pats)
@@ -111,7 +112,7 @@ pub fn see_bindings(
     places: &mut Vec<Place>,
     locals: &[Local<Span>],
 ) -> Result<(), OutOfMemory>
-    ensures { OnOk result (places.new.items ≡ places.old.items ++ repeated [] (group_variables (binding_parts (map (local_binding (λ a. a)) locals.now)))) }
+    ensures { OnOk result (places.new.items ≡ places.old.items ++ repeated [] (group_variables (binding_parts (map (local_binding itself) locals.now)))) }
 {
     let mut seen = Names::new(alloc);
     for local in locals {
@@ -126,7 +127,7 @@ pub fn see_signatures(
     places: &mut Vec<Place>,
     locals: &[Local<Span>],
 ) -> Result<(), OutOfMemory>
-    ensures { OnOk result (places.new.items ≡ places.old.items ++ repeated [] (group_signatures (binding_parts (map (local_binding (λ a. a)) locals.now)))) }
+    ensures { OnOk result (places.new.items ≡ places.old.items ++ repeated [] (group_signatures (binding_parts (map (local_binding itself) locals.now)))) }
 {
     let mut seen = Names::new(alloc);
     for local in locals {

@@ -1,5 +1,6 @@
 -- The nodes of each variant of a tree: itself, and then those of its parts.
 use Rattle.std.proofs.Common.{◌≡◌, ◌∙◌, ℕ, refl, sym, ap, List, ◌∷◌, ◌++◌, append_assoc, map, flat_map}
+use Rattle.rw_tree.specs.Views.{itself}
 use Rattle.rw_tree.specs.declared.pattern.Pat.{Pat}
 use Rattle.rw_tree.specs.declared.pattern.Pat.TheVariants as pat
 use Rattle.rw_tree.specs.declared.expr.Expr.{Expr}
@@ -24,24 +25,24 @@ both ks ms ls ns e f = ap (λ xs. xs ++ ms) e ∙ ap (λ xs. ls ++ xs) f
 
 module _ {A : Type 0} where
   -- a tree's nodes, by what its plain form is
-  an_expression : (t : Expr A) (e : Expression A) (own inner : List (Node A)) → expression (λ a. a) t ≡ e → expression_nodes e ≡ expression_node e ∷ own → own ≡ inner
-      → expression_nodes (expression (λ a. a) t) ≡ expression_node (expression (λ a. a) t) ∷ inner
+  an_expression : (t : Expr A) (e : Expression A) (own inner : List (Node A)) → expression itself t ≡ e → expression_nodes e ≡ expression_node e ∷ own → own ≡ inner
+      → expression_nodes (expression itself t) ≡ expression_node (expression itself t) ∷ inner
   an_expression t e own inner is h same = rw is (h ∙ ap (λ ms. expression_node e ∷ ms) same)
 
-  a_pattern : (t : Pat A) (p : Pattern A) (own inner : List (Node A)) → pattern (λ a. a) t ≡ p → pattern_nodes p ≡ pattern_node p ∷ own → own ≡ inner
-      → pattern_nodes (pattern (λ a. a) t) ≡ pattern_node (pattern (λ a. a) t) ∷ inner
+  a_pattern : (t : Pat A) (p : Pattern A) (own inner : List (Node A)) → pattern itself t ≡ p → pattern_nodes p ≡ pattern_node p ∷ own → own ≡ inner
+      → pattern_nodes (pattern itself t) ≡ pattern_node (pattern itself t) ∷ inner
   a_pattern t p own inner is h same = rw is (h ∙ ap (λ ms. pattern_node p ∷ ms) same)
 
-  a_binding : (t : Local A) (b : LocalBinding A) (own inner : List (Node A)) → local_binding (λ a. a) t ≡ b → binding_nodes b ≡ binding_node b ∷ own → own ≡ inner
-      → binding_nodes (local_binding (λ a. a) t) ≡ binding_node (local_binding (λ a. a) t) ∷ inner
+  a_binding : (t : Local A) (b : LocalBinding A) (own inner : List (Node A)) → local_binding itself t ≡ b → binding_nodes b ≡ binding_node b ∷ own → own ≡ inner
+      → binding_nodes (local_binding itself t) ≡ binding_node (local_binding itself t) ∷ inner
   a_binding t b own inner is h same = rw is (h ∙ ap (λ ms. binding_node b ∷ ms) same)
 
-  a_statement : (t : Stmt A) (s : Statement A) (own inner : List (Node A)) → statement (λ a. a) t ≡ s → statement_nodes s ≡ statement_node s ∷ own → own ≡ inner
-      → statement_nodes (statement (λ a. a) t) ≡ statement_node (statement (λ a. a) t) ∷ inner
+  a_statement : (t : Stmt A) (s : Statement A) (own inner : List (Node A)) → statement itself t ≡ s → statement_nodes s ≡ statement_node s ∷ own → own ≡ inner
+      → statement_nodes (statement itself t) ≡ statement_node (statement itself t) ∷ inner
   a_statement t s own inner is h same = rw is (h ∙ ap (λ ms. statement_node s ∷ ms) same)
 
-  a_clause : (t : Alt A) (c : Alternative A) (own inner : List (Node A)) → alternative_of (λ a. a) t ≡ c → clause_nodes c ≡ clause_node c ∷ own → own ≡ inner
-      → clause_nodes (alternative_of (λ a. a) t) ≡ clause_node (alternative_of (λ a. a) t) ∷ inner
+  a_clause : (t : Alt A) (c : Alternative A) (own inner : List (Node A)) → alternative_of itself t ≡ c → clause_nodes c ≡ clause_node c ∷ own → own ≡ inner
+      → clause_nodes (alternative_of itself t) ≡ clause_node (alternative_of itself t) ∷ inner
   a_clause t c own inner is h same = rw is (h ∙ ap (λ ms. clause_node c ∷ ms) same)
 
   pub constructor_pattern : (t : Pat A) (a : A) (n : List ℕ) (ps given : List (Pat A)) (ns : List (Node A)) → t ≡ pat.Con a n ps → given ≡ ps

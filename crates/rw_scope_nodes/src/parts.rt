@@ -1,5 +1,6 @@
 // What stands in a node.
 ghost use Rattle.std.specs.Prelude.{◌≡◌, ◌∷◌, ◌++◌};
+ghost use Rattle.rw_tree.specs.Views.{itself};
 ghost use Rattle.rw_tree.specs.Trees.{alternative_of, expression, local_binding, right_side, statement};
 ghost use Rattle.rw_tree.specs.Patterns.{pattern};
 ghost use Rattle.rw_scope_rules.specs.Nodes.{expression_node, pattern_node, clause_node, binding_node, statement_node, expression_nodes, pattern_nodes, clause_nodes, binding_nodes, side_nodes, statement_nodes};
@@ -32,7 +33,7 @@ fn two<'a, A: Copy + Drop>(first: Task<'a, A>, second: Task<'a, A>) -> Parts<'a,
 
 // What stands in a pattern.
 pub fn pattern_parts<'a, A: Copy + Drop>(tree: &'a Pat<A>) -> Parts<'a, A>
-    ensures { pattern_nodes (pattern (λ a. a) tree.now) ≡ pattern_node (pattern (λ a. a) tree.now) ∷ inner_nodes result }
+    ensures { pattern_nodes (pattern itself tree.now) ≡ pattern_node (pattern itself tree.now) ∷ inner_nodes result }
 {
     match tree {
         Pat::Wild(_) => one(Task::Nothing),
@@ -44,7 +45,7 @@ pub fn pattern_parts<'a, A: Copy + Drop>(tree: &'a Pat<A>) -> Parts<'a, A>
 
 // What stands in an expression.
 pub fn expression_parts<'a, A: Copy + Drop>(tree: &'a Expr<A>) -> Parts<'a, A>
-    ensures { expression_nodes (expression (λ a. a) tree.now) ≡ expression_node (expression (λ a. a) tree.now) ∷ inner_nodes result }
+    ensures { expression_nodes (expression itself tree.now) ≡ expression_node (expression itself tree.now) ∷ inner_nodes result }
 {
     match tree {
         Expr::Var(_, _) => one(Task::Nothing),
@@ -80,7 +81,7 @@ pub fn expression_parts<'a, A: Copy + Drop>(tree: &'a Expr<A>) -> Parts<'a, A>
 
 // A right side.
 fn side_task<'a, A: Copy + Drop>(side: &'a Rhs<A>) -> Task<'a, A>
-    ensures { side_nodes (right_side (λ a. a) side.now) ≡ task_nodes result }
+    ensures { side_nodes (right_side itself side.now) ≡ task_nodes result }
 {
     match side {
         Rhs::Plain(body) => Task::Expression(body),
@@ -90,7 +91,7 @@ fn side_task<'a, A: Copy + Drop>(side: &'a Rhs<A>) -> Task<'a, A>
 
 // What stands in a clause: its patterns, its right side, and the group after `where`.
 pub fn clause_parts<'a, A: Copy + Drop>(tree: &'a Alt<A>) -> Parts<'a, A>
-    ensures { clause_nodes (alternative_of (λ a. a) tree.now) ≡ clause_node (alternative_of (λ a. a) tree.now) ∷ inner_nodes result }
+    ensures { clause_nodes (alternative_of itself tree.now) ≡ clause_node (alternative_of itself tree.now) ∷ inner_nodes result }
 {
     Parts {
         first: Task::Patterns(tree.pats.as_slice()),
@@ -101,7 +102,7 @@ pub fn clause_parts<'a, A: Copy + Drop>(tree: &'a Alt<A>) -> Parts<'a, A>
 
 // What stands in a local binding.
 pub fn binding_parts<'a, A: Copy + Drop>(tree: &'a Local<A>) -> Parts<'a, A>
-    ensures { binding_nodes (local_binding (λ a. a) tree.now) ≡ binding_node (local_binding (λ a. a) tree.now) ∷ inner_nodes result }
+    ensures { binding_nodes (local_binding itself tree.now) ≡ binding_node (local_binding itself tree.now) ∷ inner_nodes result }
 {
     match tree {
         Local::Sig(_, _, _) => one(Task::Nothing),
@@ -112,7 +113,7 @@ pub fn binding_parts<'a, A: Copy + Drop>(tree: &'a Local<A>) -> Parts<'a, A>
 
 // What stands in a statement.
 pub fn statement_parts<'a, A: Copy + Drop>(tree: &'a Stmt<A>) -> Parts<'a, A>
-    ensures { statement_nodes (statement (λ a. a) tree.now) ≡ statement_node (statement (λ a. a) tree.now) ∷ inner_nodes result }
+    ensures { statement_nodes (statement itself tree.now) ≡ statement_node (statement itself tree.now) ∷ inner_nodes result }
 {
     match tree {
         Stmt::Bind(_, pat, body) => two(Task::Pattern(pat), Task::Expression(body)),

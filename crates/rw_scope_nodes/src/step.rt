@@ -1,5 +1,6 @@
 // One step of the walk: the first node of a task is found, and what is left of the task is put on the list.
 ghost use Rattle.std.specs.Prelude.{◌≡◌, ◌++◌, ◌+◌, ◌*◌, ◌≤◌, ◌∷◌, OnOk, vec_len, flat_map, map};
+ghost use Rattle.rw_tree.specs.Views.{itself};
 ghost use Rattle.rw_tree.specs.Trees.{alternative_of, binding_parts as plain_parts, expression, guarded, local_binding, statement};
 ghost use Rattle.rw_tree.specs.Patterns.{pattern};
 ghost use Rattle.rw_scope_rules.specs.Nodes.{binding_nodes, body_nodes, clause_nodes, expression_nodes, group_node, pattern_nodes, statement_nodes};
@@ -36,7 +37,7 @@ fn find_expression<'a, A: Copy + Drop>(
     left: &mut Vec<Task<'a, A>>,
     found: &mut Vec<Node<'a, A>>,
 ) -> Result<(), OutOfMemory>
-    ensures nodes { OnOk result (in_all found.new.items left.new.items ≡ plain_nodes found.old.items ++ (expression_nodes (expression (λ a. a) tree.now) ++ left_nodes left.old.items)) }
+    ensures nodes { OnOk result (in_all found.new.items left.new.items ≡ plain_nodes found.old.items ++ (expression_nodes (expression itself tree.now) ++ left_nodes left.old.items)) }
     ensures found { OnOk result (vec_len found.new ≡ vec_len found.old + 1) }
     ensures count { OnOk result (vec_len left.new ≡ vec_len left.old + 3) }
 {
@@ -50,7 +51,7 @@ fn find_pattern<'a, A: Copy + Drop>(
     left: &mut Vec<Task<'a, A>>,
     found: &mut Vec<Node<'a, A>>,
 ) -> Result<(), OutOfMemory>
-    ensures nodes { OnOk result (in_all found.new.items left.new.items ≡ plain_nodes found.old.items ++ (pattern_nodes (pattern (λ a. a) tree.now) ++ left_nodes left.old.items)) }
+    ensures nodes { OnOk result (in_all found.new.items left.new.items ≡ plain_nodes found.old.items ++ (pattern_nodes (pattern itself tree.now) ++ left_nodes left.old.items)) }
     ensures found { OnOk result (vec_len found.new ≡ vec_len found.old + 1) }
     ensures count { OnOk result (vec_len left.new ≡ vec_len left.old + 3) }
 {
@@ -64,7 +65,7 @@ fn find_clause<'a, A: Copy + Drop>(
     left: &mut Vec<Task<'a, A>>,
     found: &mut Vec<Node<'a, A>>,
 ) -> Result<(), OutOfMemory>
-    ensures nodes { OnOk result (in_all found.new.items left.new.items ≡ plain_nodes found.old.items ++ (clause_nodes (alternative_of (λ a. a) tree.now) ++ left_nodes left.old.items)) }
+    ensures nodes { OnOk result (in_all found.new.items left.new.items ≡ plain_nodes found.old.items ++ (clause_nodes (alternative_of itself tree.now) ++ left_nodes left.old.items)) }
     ensures found { OnOk result (vec_len found.new ≡ vec_len found.old + 1) }
     ensures count { OnOk result (vec_len left.new ≡ vec_len left.old + 3) }
 {
@@ -78,7 +79,7 @@ fn find_binding<'a, A: Copy + Drop>(
     left: &mut Vec<Task<'a, A>>,
     found: &mut Vec<Node<'a, A>>,
 ) -> Result<(), OutOfMemory>
-    ensures nodes { OnOk result (in_all found.new.items left.new.items ≡ plain_nodes found.old.items ++ (binding_nodes (local_binding (λ a. a) tree.now) ++ left_nodes left.old.items)) }
+    ensures nodes { OnOk result (in_all found.new.items left.new.items ≡ plain_nodes found.old.items ++ (binding_nodes (local_binding itself tree.now) ++ left_nodes left.old.items)) }
     ensures found { OnOk result (vec_len found.new ≡ vec_len found.old + 1) }
     ensures count { OnOk result (vec_len left.new ≡ vec_len left.old + 3) }
 {
@@ -92,7 +93,7 @@ fn find_statement<'a, A: Copy + Drop>(
     left: &mut Vec<Task<'a, A>>,
     found: &mut Vec<Node<'a, A>>,
 ) -> Result<(), OutOfMemory>
-    ensures nodes { OnOk result (in_all found.new.items left.new.items ≡ plain_nodes found.old.items ++ (statement_nodes (statement (λ a. a) tree.now) ++ left_nodes left.old.items)) }
+    ensures nodes { OnOk result (in_all found.new.items left.new.items ≡ plain_nodes found.old.items ++ (statement_nodes (statement itself tree.now) ++ left_nodes left.old.items)) }
     ensures found { OnOk result (vec_len found.new ≡ vec_len found.old + 1) }
     ensures count { OnOk result (vec_len left.new ≡ vec_len left.old + 3) }
 {
@@ -106,7 +107,7 @@ fn step_expressions<'a, A: Copy + Drop>(
     left: &mut Vec<Task<'a, A>>,
     found: &mut Vec<Node<'a, A>>,
 ) -> Result<(), OutOfMemory>
-    ensures nodes { OnOk result (in_all found.new.items left.new.items ≡ plain_nodes found.old.items ++ (flat_map expression_nodes (map (expression (λ a. a)) trees.now) ++ left_nodes left.old.items)) }
+    ensures nodes { OnOk result (in_all found.new.items left.new.items ≡ plain_nodes found.old.items ++ (flat_map expression_nodes (map (expression itself) trees.now) ++ left_nodes left.old.items)) }
     ensures grows { OnOk result (vec_len found.old ≤ vec_len found.new) }
     ensures count { OnOk result (vec_len left.new + 5 * vec_len found.old ≤ vec_len left.old + 5 * vec_len found.new) }
 {
@@ -125,7 +126,7 @@ fn step_patterns<'a, A: Copy + Drop>(
     left: &mut Vec<Task<'a, A>>,
     found: &mut Vec<Node<'a, A>>,
 ) -> Result<(), OutOfMemory>
-    ensures nodes { OnOk result (in_all found.new.items left.new.items ≡ plain_nodes found.old.items ++ (flat_map pattern_nodes (map (pattern (λ a. a)) trees.now) ++ left_nodes left.old.items)) }
+    ensures nodes { OnOk result (in_all found.new.items left.new.items ≡ plain_nodes found.old.items ++ (flat_map pattern_nodes (map (pattern itself) trees.now) ++ left_nodes left.old.items)) }
     ensures grows { OnOk result (vec_len found.old ≤ vec_len found.new) }
     ensures count { OnOk result (vec_len left.new + 5 * vec_len found.old ≤ vec_len left.old + 5 * vec_len found.new) }
 {
@@ -144,7 +145,7 @@ fn step_clauses<'a, A: Copy + Drop>(
     left: &mut Vec<Task<'a, A>>,
     found: &mut Vec<Node<'a, A>>,
 ) -> Result<(), OutOfMemory>
-    ensures nodes { OnOk result (in_all found.new.items left.new.items ≡ plain_nodes found.old.items ++ (flat_map clause_nodes (map (alternative_of (λ a. a)) trees.now) ++ left_nodes left.old.items)) }
+    ensures nodes { OnOk result (in_all found.new.items left.new.items ≡ plain_nodes found.old.items ++ (flat_map clause_nodes (map (alternative_of itself) trees.now) ++ left_nodes left.old.items)) }
     ensures grows { OnOk result (vec_len found.old ≤ vec_len found.new) }
     ensures count { OnOk result (vec_len left.new + 5 * vec_len found.old ≤ vec_len left.old + 5 * vec_len found.new) }
 {
@@ -163,7 +164,7 @@ fn step_bindings<'a, A: Copy + Drop>(
     left: &mut Vec<Task<'a, A>>,
     found: &mut Vec<Node<'a, A>>,
 ) -> Result<(), OutOfMemory>
-    ensures nodes { OnOk result (in_all found.new.items left.new.items ≡ plain_nodes found.old.items ++ (flat_map binding_nodes (map (local_binding (λ a. a)) trees.now) ++ left_nodes left.old.items)) }
+    ensures nodes { OnOk result (in_all found.new.items left.new.items ≡ plain_nodes found.old.items ++ (flat_map binding_nodes (map (local_binding itself) trees.now) ++ left_nodes left.old.items)) }
     ensures grows { OnOk result (vec_len found.old ≤ vec_len found.new) }
     ensures count { OnOk result (vec_len left.new + 5 * vec_len found.old ≤ vec_len left.old + 5 * vec_len found.new) }
 {
@@ -182,7 +183,7 @@ fn step_statements<'a, A: Copy + Drop>(
     left: &mut Vec<Task<'a, A>>,
     found: &mut Vec<Node<'a, A>>,
 ) -> Result<(), OutOfMemory>
-    ensures nodes { OnOk result (in_all found.new.items left.new.items ≡ plain_nodes found.old.items ++ (flat_map statement_nodes (map (statement (λ a. a)) trees.now) ++ left_nodes left.old.items)) }
+    ensures nodes { OnOk result (in_all found.new.items left.new.items ≡ plain_nodes found.old.items ++ (flat_map statement_nodes (map (statement itself) trees.now) ++ left_nodes left.old.items)) }
     ensures grows { OnOk result (vec_len found.old ≤ vec_len found.new) }
     ensures count { OnOk result (vec_len left.new + 5 * vec_len found.old ≤ vec_len left.old + 5 * vec_len found.new) }
 {
@@ -201,7 +202,7 @@ fn step_guards<'a, A: Copy + Drop>(
     left: &mut Vec<Task<'a, A>>,
     found: &mut Vec<Node<'a, A>>,
 ) -> Result<(), OutOfMemory>
-    ensures nodes { OnOk result (in_all found.new.items left.new.items ≡ plain_nodes found.old.items ++ (flat_map body_nodes (map (guarded (λ a. a)) trees.now) ++ left_nodes left.old.items)) }
+    ensures nodes { OnOk result (in_all found.new.items left.new.items ≡ plain_nodes found.old.items ++ (flat_map body_nodes (map (guarded itself) trees.now) ++ left_nodes left.old.items)) }
     ensures grows { OnOk result (vec_len found.old ≤ vec_len found.new) }
     ensures count { OnOk result (vec_len left.new + 5 * vec_len found.old ≤ vec_len left.old + 5 * vec_len found.new) }
 {
@@ -221,7 +222,7 @@ fn find_group<'a, A: Copy + Drop>(
     left: &mut Vec<Task<'a, A>>,
     found: &mut Vec<Node<'a, A>>,
 ) -> Result<(), OutOfMemory>
-    ensures nodes { OnOk result (in_all found.new.items left.new.items ≡ plain_nodes found.old.items ++ ((group_node (plain_parts (map (local_binding (λ a. a)) group.now)) ∷ flat_map binding_nodes (map (local_binding (λ a. a)) group.now)) ++ left_nodes left.old.items)) }
+    ensures nodes { OnOk result (in_all found.new.items left.new.items ≡ plain_nodes found.old.items ++ ((group_node (plain_parts (map (local_binding itself) group.now)) ∷ flat_map binding_nodes (map (local_binding itself) group.now)) ++ left_nodes left.old.items)) }
     ensures found { OnOk result (vec_len found.new ≡ vec_len found.old + 1) }
     ensures count { OnOk result (vec_len left.new ≡ vec_len left.old + 1) }
 {

@@ -1,5 +1,6 @@
 // The walk over a program's functions.
 ghost use Rattle.std.specs.Prelude.{◌≡◌, ◌++◌, IfOk, OnOk};
+ghost use Rattle.rw_tree.specs.Views.{itself};
 ghost use Rattle.rw_tree.specs.Declarations.{declaration, plain_program};
 ghost use Rattle.rw_tree.specs.Patterns.{pattern, patterns};
 ghost use Rattle.rw_tree.specs.Trees.{local_binding};
@@ -35,7 +36,7 @@ fn walk_declaration<'a, A: Copy + Drop>(
     decl: &'a Decl<A>,
     found: &mut Vec<Node<'a, A>>,
 ) -> Result<(), OutOfMemory>
-    ensures { OnOk result (plain_nodes found.new.items ≡ plain_nodes found.old.items ++ declaration_nodes (declaration (λ a. a) decl.now)) }
+    ensures { OnOk result (plain_nodes found.new.items ≡ plain_nodes found.old.items ++ declaration_nodes (declaration itself decl.now)) }
 {
     match decl {
         Decl::Fun(_, _, clauses) => walk(alloc, Task::Clauses(clauses.as_slice()), found),
@@ -48,7 +49,7 @@ pub fn nodes<'a, A: Copy + Drop>(
     alloc: Global,
     program: &'a Program<A>,
 ) -> Result<Vec<Node<'a, A>>, OutOfMemory>
-    ensures { IfOk result (λ found. plain_nodes found.items ≡ program_nodes (plain_program (λ a. a) program.now)) }
+    ensures { IfOk result (λ found. plain_nodes found.items ≡ program_nodes (plain_program itself program.now)) }
 {
     let mut found = Vec::new(alloc);
     for decl in program.decls.as_slice() {
@@ -62,7 +63,7 @@ pub fn nodes_of_binding<'a, A: Copy + Drop>(
     alloc: Global,
     binding: &'a Local<A>,
 ) -> Result<Vec<Node<'a, A>>, OutOfMemory>
-    ensures { IfOk result (λ found. plain_nodes found.items ≡ binding_nodes (local_binding (λ a. a) binding.now)) }
+    ensures { IfOk result (λ found. plain_nodes found.items ≡ binding_nodes (local_binding itself binding.now)) }
 {
     let mut found = Vec::new(alloc);
     walk(alloc, Task::Binding(binding), &mut found)?;
@@ -74,7 +75,7 @@ pub fn nodes_of_pattern<'a, A: Copy + Drop>(
     alloc: Global,
     pat: &'a Pat<A>,
 ) -> Result<Vec<Node<'a, A>>, OutOfMemory>
-    ensures { IfOk result (λ found. plain_nodes found.items ≡ pattern_nodes (pattern (λ a. a) pat.now)) }
+    ensures { IfOk result (λ found. plain_nodes found.items ≡ pattern_nodes (pattern itself pat.now)) }
 {
     let mut found = Vec::new(alloc);
     walk(alloc, Task::Pattern(pat), &mut found)?;
@@ -86,7 +87,7 @@ pub fn nodes_of_patterns<'a, A: Copy + Drop>(
     alloc: Global,
     pats: &'a [Pat<A>],
 ) -> Result<Vec<Node<'a, A>>, OutOfMemory>
-    ensures { IfOk result (λ found. plain_nodes found.items ≡ row_nodes (patterns (λ a. a) pats.now)) }
+    ensures { IfOk result (λ found. plain_nodes found.items ≡ row_nodes (patterns itself pats.now)) }
 {
     let mut found = Vec::new(alloc);
     walk(alloc, Task::Patterns(pats), &mut found)?;

@@ -3,6 +3,7 @@ use Rattle.std.proofs.Common.{◌≡◌, ◌∙◌, ℕ, refl, sym, ap, Option, 
 use Rattle.std.proofs.lemmas.Grind.{flat_map-append}
 use Rattle.rw_base.specs.declared.place.Place.{Place}
 use Rattle.rw_scope_rules.specs.declared.binding.Bound.{Bound}
+use Rattle.rw_tree.specs.Views.{itself}
 use Rattle.rw_tree.specs.declared.pattern.Pat.{Pat}
 use Rattle.rw_tree.specs.declared.expr.Expr.{Expr}
 use Rattle.rw_tree.specs.declared.expr.Expr.TheVariants as expr
@@ -22,7 +23,7 @@ use Rattle.rw_start.specs.Positions.{stray_in_node, strays}
 use Rattle.rw_start.proofs.Lists.{expressions_as, clauses_as, bodies_as, group_as, statements_as}
 
 abbrev seen : Expr Bound → Expression Bound
-seen = expression (λ a. a)
+seen = expression itself
 
 -- the nodes of some trees, one after the other
 abbrev expressions : List (Expr Bound) → List (Node Bound)
@@ -77,16 +78,16 @@ module _ (s : Option ℕ) where
   all_of : (xs given : List (Expr Bound)) → given ≡ xs → strays s (expressions_nodes (expression_parts (map seen xs))) ≡ strays s (expressions given)
   all_of xs given same = ap (strays s) (expressions_as (map seen xs) ∙ ap expressions (sym same))
 
-  rows_of : (xs given : List (Alt Bound)) → given ≡ xs → strays s (clauses_nodes (alternative_parts (map (alternative_of (λ a. a)) xs))) ≡ strays s (clauses given)
+  rows_of : (xs given : List (Alt Bound)) → given ≡ xs → strays s (clauses_nodes (alternative_parts (map (alternative_of itself) xs))) ≡ strays s (clauses given)
   rows_of xs given same = ap (strays s) (clauses_as (map (alternative_of (λ (a : Bound). a)) xs) ∙ ap clauses (sym same))
 
-  group_of : (xs given : List (Local Bound)) → given ≡ xs → strays s (group_nodes (binding_parts (map (local_binding (λ a. a)) xs))) ≡ strays s (bindings given)
+  group_of : (xs given : List (Local Bound)) → given ≡ xs → strays s (group_nodes (binding_parts (map (local_binding itself) xs))) ≡ strays s (bindings given)
   group_of xs given same = ap (strays s) (group_as (map (local_binding (λ (a : Bound). a)) xs) ∙ ap bindings (sym same))
 
-  steps_of : (xs given : List (Stmt Bound)) → given ≡ xs → strays s (statements_nodes (statement_parts (map (statement (λ a. a)) xs))) ≡ strays s (statements given)
+  steps_of : (xs given : List (Stmt Bound)) → given ≡ xs → strays s (statements_nodes (statement_parts (map (statement itself) xs))) ≡ strays s (statements given)
   steps_of xs given same = ap (strays s) (statements_as (map (statement (λ (a : Bound). a)) xs) ∙ ap statements (sym same))
 
-  guards_of : (xs given : List (Guard Bound)) → given ≡ xs → strays s (bodies_nodes (body_parts (map (guarded (λ a. a)) xs))) ≡ strays s (guards given)
+  guards_of : (xs given : List (Guard Bound)) → given ≡ xs → strays s (bodies_nodes (body_parts (map (guarded itself) xs))) ≡ strays s (guards given)
   guards_of xs given same = ap (strays s) (bodies_as (map (guarded (λ (a : Bound). a)) xs) ∙ ap guards (sym same))
 
   -- == Expressions ==

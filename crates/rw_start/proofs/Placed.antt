@@ -4,6 +4,7 @@ use Rattle.std.proofs.lemmas.Grind.{flat_map-append}
 use Rattle.std.proofs.lemmas.List.{take-map, drop-map, take_rest}
 use Rattle.rw_base.specs.declared.place.Place.{Place}
 use Rattle.rw_scope_rules.specs.declared.binding.Bound.{Bound}
+use Rattle.rw_tree.specs.Views.{itself}
 use Rattle.rw_tree.specs.declared.decl.Decl.{Decl}
 use Rattle.rw_tree.specs.declared.clause.Local.{Local}
 use Rattle.rw_tree.specs.Trees.{LocalBindings, local_binding, binding_parts}
@@ -19,7 +20,7 @@ use Rattle.rw_start.proofs.Lists.{group_as}
 use Rattle.rw_start.proofs.Found.{two, parted}
 
 abbrev plain : List (Decl Bound) → List (Declaration Bound)
-plain ds = map (declaration (λ a. a)) ds
+plain ds = map (declaration itself) ds
 
 abbrev nodes : List (Declaration Bound) → List (Node Bound)
 nodes ds = flat_map declaration_nodes ds
@@ -37,11 +38,11 @@ module _ (s : Option ℕ) (n : ℕ) (ds : List (Decl Bound)) where
 
   pub in_order : (system : System) (ws : List (Local Bound)) (none p q r t none_too begins given last : List Place) → s ≡ barred n system → none ≡ []
       → p ≡ none ++ strays s (nodes (plain (take n ds))) → q ≡ p ++ strays s (nodes (plain (take (length ds - (n + 1)) (drop (n + 1) ds))))
-      → r ≡ q ++ strays s (inner_nodes system) → t ≡ r ++ strays s (flat_map binding_nodes (map (local_binding (λ a. a)) ws))
+      → r ≡ q ++ strays s (inner_nodes system) → t ≡ r ++ strays s (flat_map binding_nodes (map (local_binding itself) ws))
       → none_too ≡ [] → begins ≡ none_too ++ map beginning (leaves system) → given ≡ begins → last ≡ t ++ drop 64 given
-      → last ≡ misplaced_with (plain ds) n system (binding_parts (map (local_binding (λ a. a)) ws))
+      → last ≡ misplaced_with (plain ds) n system (binding_parts (map (local_binding itself) ws))
   in_order system ws none p q r t none_too begins given last start_is is_none first second third fourth none_again all_begins same behind =
-      let groups : List (Node Bound) = group_nodes (binding_parts (map (local_binding (λ a. a)) ws)) in
+      let groups : List (Node Bound) = group_nodes (binding_parts (map (local_binding itself) ws)) in
       let outer : List Place = strays s (nodes (without n (plain ds))) in
       let in_decls : q ≡ none ++ outer = two none p q (strays s (nodes (plain (take n ds)))) (strays s (nodes (plain (drop (n + 1) ds)))) outer first (second ∙ ap (λ xs. p ++ strays s (nodes (plain xs))) (take_rest ds (n + 1))) others in
       let in_group : t ≡ r ++ strays s groups = fourth ∙ ap (λ ms. r ++ strays s ms) (sym (group_as (map (local_binding (λ (a : Bound). a)) ws))) in

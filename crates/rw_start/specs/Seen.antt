@@ -2,6 +2,7 @@
 use denote.Ref.{Bor}
 use Rattle.std.specs.Prelude.{List, map, Option, Some, None}
 use Rattle.rw_scope_rules.specs.declared.binding.Bound.{Bound}
+use Rattle.rw_tree.specs.Views.{itself}
 use Rattle.rw_tree.specs.declared.types.Written.{Written}
 use Rattle.rw_tree.specs.Types.{WrittenType, written}
 use Rattle.rw_tree.specs.Trees.{alternative_of, LocalBindings}
@@ -13,7 +14,7 @@ abbrev pub seen_types : List (Bor Written) → List WrittenType
 seen_types types = map (λ t. written t.now) types
 
 abbrev pub plain_start : Start → PlainStart
-plain_start start = record { number = start.number; place = start.place; clauses = map (alternative_of (λ a. a)) start.clauses.now }
+plain_start start = record { number = start.number; place = start.place; clauses = map (alternative_of itself) start.clauses.now }
 
 -- what is bound after the `where` of a body, if there is one
 abbrev pub wheres_in : Option Body → Option (LocalBindings Bound)

@@ -1,6 +1,7 @@
 // E15, and then E16: the first that is broken, at the first place where it is.
 ghost use Rattle.std.specs.Prelude.{◌≡◌, ◌++◌, ◌<◌, IfOk, OnOk, None, map, flat_map, drop, length};
 ghost use Rattle.rw_base.specs.declared.rule.Rule.TheVariants.{E15, E16};
+ghost use Rattle.rw_tree.specs.Views.{itself};
 ghost use Rattle.rw_tree.specs.Trees.{binding_parts, local_binding};
 ghost use Rattle.rw_tree.specs.Declarations.{declaration, plain_program};
 ghost use Rattle.rw_scope_rules.specs.Names.{earliest as first_of, is_before};
@@ -61,7 +62,7 @@ fn refuse(rule: Rule, places: &[Place]) -> Result<(), Fail>
 
 // Whether `start` has a signature, and its type is that of a whole device.
 fn has_device_type(alloc: Global, decls: &[Decl<Bound>]) -> Result<bool, OutOfMemory>
-    ensures { IfOk result (λ is. is ≡ is_device_if (declared_type (map (declaration (λ a. a)) decls.now))) }
+    ensures { IfOk result (λ is. is ≡ is_device_if (declared_type (map (declaration itself) decls.now))) }
 {
     match type_of_start(decls) {
         Some(ty) => is_device(alloc, ty),
@@ -71,7 +72,7 @@ fn has_device_type(alloc: Global, decls: &[Decl<Bound>]) -> Result<bool, OutOfMe
 
 // The rule on `start`.
 fn judge_start(alloc: Global, program: &Program<Bound>) -> Result<(), Fail>
-    ensures { IsJudged (broken_first E15 (first_of (improper_start (plain_program (λ a. a) program.now))) None) result }
+    ensures { IsJudged (broken_first E15 (first_of (improper_start (plain_program itself program.now))) None) result }
 {
     let decls = program.decls.as_slice();
     let place = match start_of(decls) {
@@ -108,7 +109,7 @@ fn misplaced_in_system(
     wheres: &[Local<Bound>],
 ) -> Result<Vec<Place>, OutOfMemory>
     requires { number < length decls.now }
-    ensures { IfOk result (λ places. places.items ≡ misplaced_with (map (declaration (λ a. a)) decls.now) number (shown parts.now) (binding_parts (map (local_binding (λ a. a)) wheres.now))) }
+    ensures { IfOk result (λ places. places.items ≡ misplaced_with (map (declaration itself) decls.now) number (shown parts.now) (binding_parts (map (local_binding itself) wheres.now))) }
 {
     let start = barred(number, parts)?;
     let mut places = Vec::new(alloc);
@@ -124,7 +125,7 @@ fn misplaced_in_system(
 
 // Where it is broken in one whose `start` has no body: nothing is in place there.
 fn misplaced_anywhere(alloc: Global, decls: &[Decl<Bound>]) -> Result<Vec<Place>, OutOfMemory>
-    ensures { IfOk result (λ places. places.items ≡ strays None (flat_map declaration_nodes (map (declaration (λ a. a)) decls.now))) }
+    ensures { IfOk result (λ places. places.items ≡ strays None (flat_map declaration_nodes (map (declaration itself) decls.now))) }
 {
     let mut places = Vec::new(alloc);
     in_decls(None, decls, &mut places)?;
@@ -133,7 +134,7 @@ fn misplaced_anywhere(alloc: Global, decls: &[Decl<Bound>]) -> Result<Vec<Place>
 
 // Where E16 is broken.
 fn misplaced(alloc: Global, program: &Program<Bound>) -> Result<Vec<Place>, OutOfMemory>
-    ensures { IfOk result (λ places. places.items ≡ misplaced_in (plain_program (λ a. a) program.now)) }
+    ensures { IfOk result (λ places. places.items ≡ misplaced_in (plain_program itself program.now)) }
 {
     let decls = program.decls.as_slice();
     let Some(start) = start_of(decls) else {
@@ -162,9 +163,9 @@ fn misplaced(alloc: Global, program: &Program<Bound>) -> Result<Vec<Place>, OutO
 /// Ok where both are kept. A program with 2^32 declarations counts as want of memory.
 pub fn check_start(alloc: Global, program: &Program<Bound>) -> Result<(), Fail>
     // Ok where neither is broken, and else the first that is, at its first place.
-    ensures judged { IsJudged (broken_first E15 (first_of (improper_start (plain_program (λ a. a) program.now))) (broken_first E16 (first_of (misplaced_in (plain_program (λ a. a) program.now))) None)) result }
+    ensures judged { IsJudged (broken_first E15 (first_of (improper_start (plain_program itself program.now))) (broken_first E16 (first_of (misplaced_in (plain_program itself program.now))) None)) result }
     // Ok: both hold.
-    ensures started { OnOk result (IsStarted (plain_program (λ a. a) program.now)) }
+    ensures started { OnOk result (IsStarted (plain_program itself program.now)) }
 {
     judge_start(alloc, program)?;
     let places = misplaced(alloc, program)?;

@@ -1,6 +1,7 @@
 // The names in a tree that are out of place wherever they stand: `par`, `refold`, and `start` where nothing may name it.
 // The functions call one another as deep as the tree is, and go over lists by loops.
 ghost use Rattle.std.specs.Prelude.{◌≡◌, ◌++◌, OnOk, map, flat_map};
+ghost use Rattle.rw_tree.specs.Views.{itself};
 ghost use Rattle.rw_tree.specs.Trees.{alternative_of, expression, guarded, local_binding, right_side, statement};
 ghost use Rattle.rw_tree.specs.Declarations.{declaration};
 ghost use Rattle.rw_scope_rules.specs.Nodes.{binding_nodes, body_nodes, clause_nodes, declaration_nodes, expression_nodes, side_nodes, statement_nodes};
@@ -44,7 +45,7 @@ pub fn in_expression(
     tree: &Expr<Bound>,
     places: &mut Vec<Place>,
 ) -> Result<(), OutOfMemory>
-    ensures { OnOk result (places.new.items ≡ places.old.items ++ strays start (expression_nodes (expression (λ a. a) tree.now))) }
+    ensures { OnOk result (places.new.items ≡ places.old.items ++ strays start (expression_nodes (expression itself tree.now))) }
 {
     match tree {
         Expr::Var(at, _) => in_name(start, at, places)?,
@@ -83,7 +84,7 @@ fn in_boxed(
     tree: &Boxed<Expr<Bound>>,
     places: &mut Vec<Place>,
 ) -> Result<(), OutOfMemory>
-    ensures { OnOk result (places.new.items ≡ places.old.items ++ strays start (expression_nodes (expression (λ a. a) tree.now))) }
+    ensures { OnOk result (places.new.items ≡ places.old.items ++ strays start (expression_nodes (expression itself tree.now))) }
 {
     in_expression(start, tree.get(), places)
 }
@@ -94,7 +95,7 @@ fn in_expressions(
     trees: &[Expr<Bound>],
     places: &mut Vec<Place>,
 ) -> Result<(), OutOfMemory>
-    ensures { OnOk result (places.new.items ≡ places.old.items ++ strays start (flat_map expression_nodes (map (expression (λ a. a)) trees.now))) }
+    ensures { OnOk result (places.new.items ≡ places.old.items ++ strays start (flat_map expression_nodes (map (expression itself) trees.now))) }
 {
     for tree in trees {
         in_expression(start, tree, places)?;
@@ -109,7 +110,7 @@ fn in_clause(
     clause: &Alt<Bound>,
     places: &mut Vec<Place>,
 ) -> Result<(), OutOfMemory>
-    ensures { OnOk result (places.new.items ≡ places.old.items ++ strays start (clause_nodes (alternative_of (λ a. a) clause.now))) }
+    ensures { OnOk result (places.new.items ≡ places.old.items ++ strays start (clause_nodes (alternative_of itself clause.now))) }
 {
     in_side(start, &clause.rhs, places)?;
     in_group(start, clause.wheres.as_slice(), places)?;
@@ -122,7 +123,7 @@ pub fn in_clauses(
     clauses: &[Alt<Bound>],
     places: &mut Vec<Place>,
 ) -> Result<(), OutOfMemory>
-    ensures { OnOk result (places.new.items ≡ places.old.items ++ strays start (flat_map clause_nodes (map (alternative_of (λ a. a)) clauses.now))) }
+    ensures { OnOk result (places.new.items ≡ places.old.items ++ strays start (flat_map clause_nodes (map (alternative_of itself) clauses.now))) }
 {
     for clause in clauses {
         in_clause(start, clause, places)?;
@@ -136,7 +137,7 @@ fn in_side(
     side: &Rhs<Bound>,
     places: &mut Vec<Place>,
 ) -> Result<(), OutOfMemory>
-    ensures { OnOk result (places.new.items ≡ places.old.items ++ strays start (side_nodes (right_side (λ a. a) side.now))) }
+    ensures { OnOk result (places.new.items ≡ places.old.items ++ strays start (side_nodes (right_side itself side.now))) }
 {
     match side {
         Rhs::Plain(body) => in_expression(start, body, places)?,
@@ -151,7 +152,7 @@ fn in_guard(
     guard: &Guard<Bound>,
     places: &mut Vec<Place>,
 ) -> Result<(), OutOfMemory>
-    ensures { OnOk result (places.new.items ≡ places.old.items ++ strays start (body_nodes (guarded (λ a. a) guard.now))) }
+    ensures { OnOk result (places.new.items ≡ places.old.items ++ strays start (body_nodes (guarded itself guard.now))) }
 {
     in_expression(start, &guard.test, places)?;
     in_expression(start, &guard.body, places)?;
@@ -164,7 +165,7 @@ fn in_guards(
     guards: &[Guard<Bound>],
     places: &mut Vec<Place>,
 ) -> Result<(), OutOfMemory>
-    ensures { OnOk result (places.new.items ≡ places.old.items ++ strays start (flat_map body_nodes (map (guarded (λ a. a)) guards.now))) }
+    ensures { OnOk result (places.new.items ≡ places.old.items ++ strays start (flat_map body_nodes (map (guarded itself) guards.now))) }
 {
     for guard in guards {
         in_guard(start, guard, places)?;
@@ -178,7 +179,7 @@ fn in_binding(
     binding: &Local<Bound>,
     places: &mut Vec<Place>,
 ) -> Result<(), OutOfMemory>
-    ensures { OnOk result (places.new.items ≡ places.old.items ++ strays start (binding_nodes (local_binding (λ a. a) binding.now))) }
+    ensures { OnOk result (places.new.items ≡ places.old.items ++ strays start (binding_nodes (local_binding itself binding.now))) }
 {
     match binding {
         Local::Sig(_, _, _) => {}
@@ -194,7 +195,7 @@ pub fn in_group(
     group: &[Local<Bound>],
     places: &mut Vec<Place>,
 ) -> Result<(), OutOfMemory>
-    ensures { OnOk result (places.new.items ≡ places.old.items ++ strays start (flat_map binding_nodes (map (local_binding (λ a. a)) group.now))) }
+    ensures { OnOk result (places.new.items ≡ places.old.items ++ strays start (flat_map binding_nodes (map (local_binding itself) group.now))) }
 {
     for binding in group {
         in_binding(start, binding, places)?;
@@ -208,7 +209,7 @@ fn in_statement(
     tree: &Stmt<Bound>,
     places: &mut Vec<Place>,
 ) -> Result<(), OutOfMemory>
-    ensures { OnOk result (places.new.items ≡ places.old.items ++ strays start (statement_nodes (statement (λ a. a) tree.now))) }
+    ensures { OnOk result (places.new.items ≡ places.old.items ++ strays start (statement_nodes (statement itself tree.now))) }
 {
     match tree {
         Stmt::Bind(_, _, body) => in_expression(start, body, places)?,
@@ -224,7 +225,7 @@ fn in_statements(
     trees: &[Stmt<Bound>],
     places: &mut Vec<Place>,
 ) -> Result<(), OutOfMemory>
-    ensures { OnOk result (places.new.items ≡ places.old.items ++ strays start (flat_map statement_nodes (map (statement (λ a. a)) trees.now))) }
+    ensures { OnOk result (places.new.items ≡ places.old.items ++ strays start (flat_map statement_nodes (map (statement itself) trees.now))) }
 {
     for tree in trees {
         in_statement(start, tree, places)?;
@@ -238,7 +239,7 @@ pub fn in_decls(
     decls: &[Decl<Bound>],
     places: &mut Vec<Place>,
 ) -> Result<(), OutOfMemory>
-    ensures { OnOk result (places.new.items ≡ places.old.items ++ strays start (flat_map declaration_nodes (map (declaration (λ a. a)) decls.now))) }
+    ensures { OnOk result (places.new.items ≡ places.old.items ++ strays start (flat_map declaration_nodes (map (declaration itself) decls.now))) }
 {
     for decl in decls {
         if let Decl::Fun(_, _, clauses) = decl {

@@ -1,5 +1,6 @@
 // The declaration of `start`, its signature, and its body.
 ghost use Rattle.std.specs.Prelude.{◌≡◌, ◌<◌, ◌∷◌, [], Some, None, MatchOption, map, codes, length};
+ghost use Rattle.rw_tree.specs.Views.{itself};
 ghost use Rattle.rw_tree.specs.Types.{written};
 ghost use Rattle.rw_tree.specs.Trees.{alternative_of, binding_parts, local_binding};
 ghost use Rattle.rw_tree.specs.Declarations.{declaration};
@@ -22,7 +23,7 @@ pub struct Start<'a> {
 
 // The first declaration of `start`.
 pub fn start_of<'a>(decls: &'a [Decl<Bound>]) -> Option<Start<'a>>
-    ensures found { MatchOption result (start_from 0 (map (declaration (λ a. a)) decls.now) ≡ None) (λ start. start_from 0 (map (declaration (λ a. a)) decls.now) ≡ Some (plain_start start)) }
+    ensures found { MatchOption result (start_from 0 (map (declaration itself) decls.now) ≡ None) (λ start. start_from 0 (map (declaration itself) decls.now) ≡ Some (plain_start start)) }
     ensures within { MatchOption result Unit (λ start. start.number < length decls.now) }
 {
     for at in 0..decls.len() {
@@ -53,7 +54,7 @@ fn has_start(names: &[Name]) -> bool
 
 // The type of the first signature of `start`.
 pub fn type_of_start<'a>(decls: &'a [Decl<Bound>]) -> Option<&'a Written>
-    ensures { MatchOption result (declared_type (map (declaration (λ a. a)) decls.now) ≡ None) (λ ty. declared_type (map (declaration (λ a. a)) decls.now) ≡ Some (written ty.now)) }
+    ensures { MatchOption result (declared_type (map (declaration itself) decls.now) ≡ None) (λ ty. declared_type (map (declaration itself) decls.now) ≡ Some (written ty.now)) }
 {
     for decl in decls {
         if let Decl::Sig(_, names, ty) = decl {
@@ -67,7 +68,7 @@ pub fn type_of_start<'a>(decls: &'a [Decl<Bound>]) -> Option<&'a Written>
 
 // What is bound after the `where` of a clause that has neither patterns nor guards.
 fn wheres_of_one<'a>(clause: &'a Alt<Bound>) -> Option<&'a [Local<Bound>]>
-    ensures { MatchOption result (wheres_in (body_of (alternative_of (λ a. a) clause.now ∷ [])) ≡ None) (λ wheres. wheres_in (body_of (alternative_of (λ a. a) clause.now ∷ [])) ≡ Some (binding_parts (map (local_binding (λ a. a)) wheres.now))) }
+    ensures { MatchOption result (wheres_in (body_of (alternative_of itself clause.now ∷ [])) ≡ None) (λ wheres. wheres_in (body_of (alternative_of itself clause.now ∷ [])) ≡ Some (binding_parts (map (local_binding itself) wheres.now))) }
 {
     if clause.pats.len() != 0 {
         return None;
@@ -80,7 +81,7 @@ fn wheres_of_one<'a>(clause: &'a Alt<Bound>) -> Option<&'a [Local<Bound>]>
 
 // That of the one clause of a body, if these clauses are one.
 pub fn wheres_of<'a>(clauses: &'a [Alt<Bound>]) -> Option<&'a [Local<Bound>]>
-    ensures { MatchOption result (wheres_in (body_of (map (alternative_of (λ a. a)) clauses.now)) ≡ None) (λ wheres. wheres_in (body_of (map (alternative_of (λ a. a)) clauses.now)) ≡ Some (binding_parts (map (local_binding (λ a. a)) wheres.now))) }
+    ensures { MatchOption result (wheres_in (body_of (map (alternative_of itself) clauses.now)) ≡ None) (λ wheres. wheres_in (body_of (map (alternative_of itself) clauses.now)) ≡ Some (binding_parts (map (local_binding itself) wheres.now))) }
 {
     match clauses {
         [clause] => wheres_of_one(clause),

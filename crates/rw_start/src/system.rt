@@ -1,6 +1,7 @@
 // The parts of a system: the names in them that are out of place, and where its devices begin.
 ghost use Rattle.std.specs.Prelude.{◌≡◌, ◌++◌, OnOk, IfOk, map};
 ghost use Rattle.std.specs.Option.{option_map};
+ghost use Rattle.rw_tree.specs.Views.{itself};
 ghost use Rattle.rw_tree.specs.Trees.{expression};
 ghost use Rattle.rw_systems.specs.Shown.{shown};
 ghost use Rattle.rw_start.specs.Positions.{leaves, inner_nodes, barred as barred_by, strays, beginning as beginning_of};
@@ -57,7 +58,7 @@ pub fn in_parts(
 
 // Where an expression begins.
 fn beginning(tree: &Expr<Bound>) -> Place
-    ensures { result ≡ beginning_of (expression (λ a. a) tree.now) }
+    ensures { result ≡ beginning_of (expression itself tree.now) }
 {
     let at = match tree {
         Expr::Var(at, _) => at,

@@ -1,6 +1,7 @@
 -- The parts of a system as the system that they are.
 use Rattle.std.specs.Prelude.{Option, Some, None}
 use Rattle.rw_scope_rules.specs.declared.binding.Bound.{Bound}
+use Rattle.rw_tree.specs.Views.{itself}
 use Rattle.rw_tree.specs.declared.expr.Expr.{Expr}
 use Rattle.rw_tree.specs.Trees.{Expression, expression}
 use Rattle.rw_meaning.specs.Systems.{System, leaf, side_by_side, fed_back, Body}
@@ -10,7 +11,7 @@ use Rattle.rw_systems.specs.declared.parts.Argument.{Argument}
 
 -- an expression without where it lies in memory
 abbrev pub seen : Expr Bound → Expression Bound
-seen = expression (λ a. a)
+seen = expression itself
 
 -- one level, with each part already shown
 abbrev pub parts_step : Parts-F System → System

@@ -1,5 +1,6 @@
 // From the body of `start` to its parts.
 ghost use Rattle.std.specs.Prelude.{◌≡◌, IfOk, MatchOption, map, ◌∷◌, [], Some, None};
+ghost use Rattle.rw_tree.specs.Views.{itself};
 ghost use Rattle.rw_tree.specs.Trees.{expression_parts, alternative_of};
 ghost use Rattle.rw_tree.specs.Declarations.{declaration};
 ghost use Rattle.rw_meaning.specs.Systems.{system_with, with_systems, system_of, body_of, start_of};
@@ -92,7 +93,7 @@ fn arguments_of<'a>(
 
 // The right side of a clause that has neither patterns nor guards.
 fn right_side<'a>(clause: &'a Alt<Bound>) -> Option<&'a Expr<Bound>>
-    ensures { MatchOption result (right_side_of (body_of (alternative_of (λ a. a) clause.now ∷ [])) ≡ None) (λ e. right_side_of (body_of (alternative_of (λ a. a) clause.now ∷ [])) ≡ Some (seen e.now)) }
+    ensures { MatchOption result (right_side_of (body_of (alternative_of itself clause.now ∷ [])) ≡ None) (λ e. right_side_of (body_of (alternative_of itself clause.now ∷ [])) ≡ Some (seen e.now)) }
 {
     if clause.pats.len() != 0 {
         return None;
@@ -105,7 +106,7 @@ fn right_side<'a>(clause: &'a Alt<Bound>) -> Option<&'a Expr<Bound>>
 
 // That of the one clause of `start`.
 fn body<'a>(clauses: &'a [Alt<Bound>]) -> Option<&'a Expr<Bound>>
-    ensures { MatchOption result (right_side_of (body_of (map (alternative_of (λ a. a)) clauses.now)) ≡ None) (λ e. right_side_of (body_of (map (alternative_of (λ a. a)) clauses.now)) ≡ Some (seen e.now)) }
+    ensures { MatchOption result (right_side_of (body_of (map (alternative_of itself) clauses.now)) ≡ None) (λ e. right_side_of (body_of (map (alternative_of itself) clauses.now)) ≡ Some (seen e.now)) }
 {
     match clauses {
         [clause] => right_side(clause),
@@ -115,7 +116,7 @@ fn body<'a>(clauses: &'a [Alt<Bound>]) -> Option<&'a Expr<Bound>>
 
 // That of the first declaration of `start`.
 fn start<'a>(decls: &'a [Decl<Bound>]) -> Option<&'a Expr<Bound>>
-    ensures { MatchOption result (right_side_of (start_of (map (declaration (λ a. a)) decls.now)) ≡ None) (λ e. right_side_of (start_of (map (declaration (λ a. a)) decls.now)) ≡ Some (seen e.now)) }
+    ensures { MatchOption result (right_side_of (start_of (map (declaration itself) decls.now)) ≡ None) (λ e. right_side_of (start_of (map (declaration itself) decls.now)) ≡ Some (seen e.now)) }
 {
     for decl in decls {
         if let Decl::Fun(_, name, clauses) = decl {
@@ -134,7 +135,7 @@ pub fn split<'a>(
     alloc: Global,
     program: &'a Program<Bound>,
 ) -> Result<Option<Parts<'a>>, OutOfMemory>
-    ensures { IfOk result (λ found. MatchOption found (right_side_of (start_of (map (declaration (λ a. a)) program.now.decls)) ≡ None) (λ parts. map_some system_of (right_side_of (start_of (map (declaration (λ a. a)) program.now.decls))) ≡ Some (shown parts))) }
+    ensures { IfOk result (λ found. MatchOption found (right_side_of (start_of (map (declaration itself) program.now.decls)) ≡ None) (λ parts. map_some system_of (right_side_of (start_of (map (declaration itself) program.now.decls))) ≡ Some (shown parts))) }
 {
     match start(program.decls.as_slice()) {
         None => Ok(None),

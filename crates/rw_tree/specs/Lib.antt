@@ -1,4 +1,5 @@
 -- The words that public contracts rest on.
+pub mod Views
 pub mod Types
 pub mod Patterns
 pub mod Trees

@@ -5,6 +5,7 @@ use Rattle.rw_base.specs.declared.place.Place.{Place}
 use Rattle.rw_base.specs.Answers.{Fail}
 use Rattle.rw_base.specs.declared.fail.Failure.TheVariants.{Refused, OutOfMemory}
 use Rattle.rw_scope_rules.specs.declared.binding.Bound.{Bound}
+use Rattle.rw_tree.specs.Views.{itself}
 use Rattle.rw_tree.specs.declared.decl.Decl.{Decl}
 use Rattle.rw_tree.specs.Declarations.{Declaration, declaration}
 use Rattle.rw_types_rules.specs.Schemes.{World}
@@ -27,25 +28,25 @@ module _ (world : World) where
   default_more (e ∷ ds) (u ∷ ts) d t h k = (h.0, default_more ds ts d t h.1 k)
 
   pub default_next : (decls : List (Decl Bound)) (i : ℕ) (decl : Decl Bound) (all new : List TypedDecl) (made : TypedDecl) → i < length decls → decl ≡ get_or decls i decl → new ≡ all ++ made ∷ []
-      → AreDefault world (map (declaration (λ a. a)) (take i decls)) (map seen all) → IsDefault world (declaration (λ a. a) decl) (seen made)
-      → AreDefault world (map (declaration (λ a. a)) (take (i + 1) decls)) (map seen new)
+      → AreDefault world (map (declaration itself) (take i decls)) (map seen all) → IsDefault world (declaration itself decl) (seen made)
+      → AreDefault world (map (declaration itself) (take (i + 1) decls)) (map seen new)
   default_next decls i decl all new made l e n h k =
-      let ds : map (declaration (λ a. a)) (take (i + 1) decls) ≡ map (declaration (λ a. a)) (take i decls) ++ declaration (λ a. a) decl ∷ [] =
-      ap (map (declaration (λ a. a))) (take_more decls i decl l ∙ ap (λ (z : Decl Bound). take i decls ++ z ∷ []) (sym e)) ∙ map-append (declaration (λ a. a)) (take i decls) (decl ∷ []) in
+      let ds : map (declaration itself) (take (i + 1) decls) ≡ map (declaration itself) (take i decls) ++ declaration itself decl ∷ [] =
+      ap (map (declaration itself)) (take_more decls i decl l ∙ ap (λ (z : Decl Bound). take i decls ++ z ∷ []) (sym e)) ∙ map-append (declaration itself) (take i decls) (decl ∷ []) in
       let ts : map seen new ≡ map seen all ++ seen made ∷ [] = ap (map seen) n ∙ map-append seen all (made ∷ []) in
       subst (λ (z : List (Declaration Bound)). AreDefault world z (map seen new)) (sym ds)
-      (subst (AreDefault world (map (declaration (λ a. a)) (take i decls) ++ declaration (λ a. a) decl ∷ [])) (sym ts)
-      (default_more (map (declaration (λ a. a)) (take i decls)) (map seen all) (declaration (λ a. a) decl) (seen made) h k))
+      (subst (AreDefault world (map (declaration itself) (take i decls) ++ declaration itself decl ∷ [])) (sym ts)
+      (default_more (map (declaration itself) (take i decls)) (map seen all) (declaration itself decl) (seen made) h k))
 
   -- the first without a typing
   pub first_at : (decls : List (Decl Bound)) (i : ℕ) (decl : Decl Bound) (ts : List (Declaration TypedNode)) (place : Place) → i < length decls → decl ≡ get_or decls i decl
-      → AreDefault world (map (declaration (λ a. a)) (take i decls)) ts → (IsTypable world (declaration (λ a. a) decl) → ⊥) → place ≡ declaration_place (declaration (λ a. a) decl)
-      → FirstUntypable world (map (declaration (λ a. a)) decls) place
+      → AreDefault world (map (declaration itself) (take i decls)) ts → (IsTypable world (declaration itself decl) → ⊥) → place ≡ declaration_place (declaration itself decl)
+      → FirstUntypable world (map (declaration itself) decls) place
   first_at [] i decl ts place l e h u p = absurd (omega arith)
   first_at (d ∷ ds) zero decl ts place l e h u p =
-      inl (subst (λ (z : Decl Bound). IsTypable world (declaration (λ a. a) z) → ⊥) e u, p ∙ ap (λ (z : Decl Bound). declaration_place (declaration (λ a. a) z)) e)
+      inl (subst (λ (z : Decl Bound). IsTypable world (declaration itself z) → ⊥) e u, p ∙ ap (λ (z : Decl Bound). declaration_place (declaration itself z)) e)
   first_at (d ∷ ds) (suc i) decl [] place l e h u p = absurd h
-  first_at (d ∷ ds) (suc i) decl (t ∷ ts) place l e h u p = inr (default_typable world (declaration (λ a. a) d) t h.0, first_at ds i decl ts place (omega arith) e h.1 u p)
+  first_at (d ∷ ds) (suc i) decl (t ∷ ts) place l e h u p = inr (default_typable world (declaration itself d) t h.0, first_at ds i decl ts place (omega arith) e h.1 u p)
 
   -- where each has a typing there is no first without one, and there is one at most
   none_first : (ds : List (Declaration Bound)) (place : Place) → AreTypable world ds → FirstUntypable world ds place → ⊥
@@ -78,10 +79,10 @@ module _ (world : World) where
 
   -- an answer on the declaration that is come to
   pub answered_at : (decls : List (Decl Bound)) (i : ℕ) (decl : Decl Bound) (all : List TypedDecl) (e : Fail) (r : Result (List TypedDecl) Fail) → i < length decls → decl ≡ get_or decls i decl
-      → AreDefault world (map (declaration (λ a. a)) (take i decls)) (map seen all) → IsInferredAlone world (declaration (λ a. a) decl) (Err e) → r ≡ Err e → IsInferred world (map (declaration (λ a. a)) decls) r
+      → AreDefault world (map (declaration itself) (take i decls)) (map seen all) → IsInferredAlone world (declaration itself decl) (Err e) → r ≡ Err e → IsInferred world (map (declaration itself) decls) r
   answered_at decls i decl all (Refused refusal) r l here h k same =
-      subst (IsInferred world (map (declaration (λ a. a)) decls)) (sym same) (k.0, first_at decls i decl (map seen all) refusal.place l here h k.2 k.1)
-  answered_at decls i decl all OutOfMemory r l here h k same = subst (IsInferred world (map (declaration (λ a. a)) decls)) (sym same) tt
+      subst (IsInferred world (map (declaration itself) decls)) (sym same) (k.0, first_at decls i decl (map seen all) refusal.place l here h k.2 k.1)
+  answered_at decls i decl all OutOfMemory r l here h k same = subst (IsInferred world (map (declaration itself) decls)) (sym same) tt
 
 -- the same world and declarations
 pub inferred_of : (w v : World) (ds es : List (Declaration Bound)) (r : Result (List TypedDecl) Fail) → w ≡ v → ds ≡ es → IsInferred w ds r → IsInferred v es r

@@ -1,5 +1,6 @@
 // The default typing of a declaration.
 ghost use Rattle.std.specs.Prelude.{◌≡◌, IfOk, Err};
+ghost use Rattle.rw_tree.specs.Views.{itself};
 ghost use Rattle.rw_tree.specs.Declarations.{declaration};
 ghost use Rattle.rw_types_rules.specs.Typings.{IsTypable, IsDefault};
 ghost use Rattle.rw_types_equations.specs.Seen.{seen_world};
@@ -30,9 +31,9 @@ pub fn infer_declaration(
     world: &World,
 ) -> Result<TypedDecl, Unsolved>
     // Ok: the default typing.
-    ensures default { IfOk result (λ made. IsDefault (seen_world world.now) (declaration (λ a. a) decl.now) (seen made)) }
+    ensures default { IfOk result (λ made. IsDefault (seen_world world.now) (declaration itself decl.now) (seen made)) }
     // Refused: there is no typing.
-    ensures refused { result ≡ Err (fail.Refused (record {})) → IsTypable (seen_world world.now) (declaration (λ a. a) decl.now) → ⊥ }
+    ensures refused { result ≡ Err (fail.Refused (record {})) → IsTypable (seen_world world.now) (declaration itself decl.now) → ⊥ }
 {
     erased_law();
     assignment_law();

@@ -1,5 +1,6 @@
 // What stands at a declaration.
 ghost use Rattle.std.specs.Prelude.{◌≡◌};
+ghost use Rattle.rw_tree.specs.Views.{itself};
 ghost use Rattle.rw_tree.specs.Declarations.{declaration};
 ghost use Rattle.rw_types_rules.specs.Typings.{declaration_label};
 
@@ -8,7 +9,7 @@ use rw_tree::Decl;
 
 // The annotation of the declaration itself.
 pub fn label(decl: &Decl<Bound>) -> Bound
-    ensures { result ≡ declaration_label (declaration (λ a. a) decl.now) }
+    ensures { result ≡ declaration_label (declaration itself decl.now) }
 {
     match decl {
         Decl::Import(at, _) => *at,

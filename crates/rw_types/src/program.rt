@@ -1,6 +1,7 @@
 // The typings of a whole program.
 ghost use Rattle.std.specs.Prelude.{◌≡◌, map};
 ghost use Rattle.rw_base.specs.declared.place.Place.{Place as PlainPlace};
+ghost use Rattle.rw_tree.specs.Views.{itself};
 ghost use Rattle.rw_tree.specs.Declarations.{declaration, plain_program};
 ghost use Rattle.rw_types_rules.specs.Schemes.{world_of};
 ghost use Rattle.rw_types_equations.specs.Seen.{seen_world};
@@ -21,7 +22,7 @@ use std::alloc::Global;
 
 // The default typing of a declaration, or E13 at the declaration.
 fn infer_one(alloc: Global, decl: &Decl<Bound>, world: &World) -> Result<TypedDecl, Fail>
-    ensures { IsInferredAlone (seen_world world.now) (declaration (λ a. a) decl.now) result }
+    ensures { IsInferredAlone (seen_world world.now) (declaration itself decl.now) result }
 {
     match infer_declaration(alloc, decl, world) {
         Ok(typed) => Ok(typed),
@@ -35,7 +36,7 @@ fn infer_one(alloc: Global, decl: &Decl<Bound>, world: &World) -> Result<TypedDe
 
 // The default typings of declarations, or E13 at the first that has none.
 fn infer_all(alloc: Global, decls: &[Decl<Bound>], world: &World) -> Result<Items<TypedDecl>, Fail>
-    ensures { IsInferred (seen_world world.now) (map (declaration (λ a. a)) decls.now) result }
+    ensures { IsInferred (seen_world world.now) (map (declaration itself) decls.now) result }
 {
     let mut all = Items::new(alloc);
     for decl in decls {
@@ -52,11 +53,11 @@ fn infer_all(alloc: Global, decls: &[Decl<Bound>], world: &World) -> Result<Item
 /// begins with the prelude's declarations, whose place is 0:0.
 pub fn infer(alloc: Global, program: &Program<Bound>) -> Result<Items<TypedDecl>, Fail>
     // Ok: the default typings. Refused: E13 at the first declaration that has no typing.
-    ensures inferred { IsInferred (world_of (plain_program (λ a. a.span) program.now).declarations) (plain_program (λ a. a) program.now).declarations result }
+    ensures inferred { IsInferred (world_of (plain_program (λ a. a.span) program.now).declarations) (plain_program itself program.now).declarations result }
     // Where each declaration has a typing the answer is Ok, unless memory runs out.
-    ensures typable { AreTypable (world_of (plain_program (λ a. a.span) program.now).declarations) (plain_program (λ a. a) program.now).declarations → IsOkUnlessMemory result }
+    ensures typable { AreTypable (world_of (plain_program (λ a. a.span) program.now).declarations) (plain_program itself program.now).declarations → IsOkUnlessMemory result }
     // Where one has none the place of the first of them is named, unless memory runs out.
-    ensures untypable { (place : PlainPlace) → FirstUntypable (world_of (plain_program (λ a. a.span) program.now).declarations) (plain_program (λ a. a) program.now).declarations place →
+    ensures untypable { (place : PlainPlace) → FirstUntypable (world_of (plain_program (λ a. a.span) program.now).declarations) (plain_program itself program.now).declarations place →
         IsRefusedUnlessMemory place result }
 {
     let decls = program.decls.as_slice();

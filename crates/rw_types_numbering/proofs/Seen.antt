@@ -1,5 +1,6 @@
 -- The plain form of a tree of the code with something of each annotation: the plain form with the annotations, relabelled.
 use Rattle.std.proofs.Common.{◌≡◌, ◌∙◌, List, [], ◌∷◌, map, refl, sym, ap, subst}
+use Rattle.rw_tree.specs.Views.{itself}
 use Rattle.rw_tree.specs.declared.pattern.Pat.{Pat}
 use Rattle.rw_tree.specs.declared.pattern.Pat.TheVariants as pat
 use Rattle.rw_tree.specs.declared.pattern.Pat.TheOpen.{Pat-F}
@@ -30,9 +31,9 @@ use Rattle.rw_types_numbering.proofs.Relabelling.{same2, same3}
 
 module _ {A X : Type 0} (f : A → X) where
   abbrev SeenPattern : Pat A → Type 0
-  SeenPattern z = pattern f z ≡ relabelled_pattern f (pattern (λ a. a) z)
+  SeenPattern z = pattern f z ≡ relabelled_pattern f (pattern itself z)
 
-  seen_parts : (ys : List ((e : Pat A) × SeenPattern e)) → pattern_parts (patterns f (map (λ e. e.0) ys)) ≡ relabelled_parts f (pattern_parts (patterns (λ a. a) (map (λ e. e.0) ys)))
+  seen_parts : (ys : List ((e : Pat A) × SeenPattern e)) → pattern_parts (patterns f (map (λ e. e.0) ys)) ≡ relabelled_parts f (pattern_parts (patterns itself (map (λ e. e.0) ys)))
   seen_parts [] = refl
   seen_parts (y ∷ ys) = same2 (λ u v. more_patterns u v) y.1 (seen_parts ys)
 
@@ -49,45 +50,45 @@ module _ {A X : Type 0} (f : A → X) where
   seen_pattern : (z : Pat A) → SeenPattern z
   seen_pattern = ind-Pat A SeenPattern (λ x y is. subst (λ z. SeenPattern (roll-Pat A z)) is (pattern_layer y))
 
-  seen_row : (zs : List (Pat A)) → patterns f zs ≡ relabelled_row f (patterns (λ a. a) zs)
+  seen_row : (zs : List (Pat A)) → patterns f zs ≡ relabelled_row f (patterns itself zs)
   seen_row [] = refl
   seen_row (z ∷ zs) = same2 ◌∷◌ (seen_pattern z) (seen_row zs)
 
   abbrev L : Local A → Type 0
-  L z = local_binding f z ≡ relabelled_binding f (local_binding (λ a. a) z)
+  L z = local_binding f z ≡ relabelled_binding f (local_binding itself z)
 
   abbrev R : Rhs A → Type 0
-  R z = right_side f z ≡ relabelled_side f (right_side (λ a. a) z)
+  R z = right_side f z ≡ relabelled_side f (right_side itself z)
 
   abbrev S : Stmt A → Type 0
-  S z = statement f z ≡ relabelled_statement f (statement (λ a. a) z)
+  S z = statement f z ≡ relabelled_statement f (statement itself z)
 
   abbrev E : Expr A → Type 0
-  E z = expression f z ≡ relabelled_expression f (expression (λ a. a) z)
+  E z = expression f z ≡ relabelled_expression f (expression itself z)
 
   abbrev W : Alt A → Type 0
-  W z = alternative_of f z ≡ relabelled_alternative f (alternative_of (λ a. a) z)
+  W z = alternative_of f z ≡ relabelled_alternative f (alternative_of itself z)
 
   abbrev G : Guard A → Type 0
-  G z = guarded f z ≡ relabelled_body f (guarded (λ a. a) z)
+  G z = guarded f z ≡ relabelled_body f (guarded itself z)
 
-  seen_expressions : (ys : List ((e : Expr A) × E e)) → expression_parts (map (expression f) (map (λ e. e.0) ys)) ≡ relabelled_expressions f (expression_parts (map (expression (λ a. a)) (map (λ e. e.0) ys)))
+  seen_expressions : (ys : List ((e : Expr A) × E e)) → expression_parts (map (expression f) (map (λ e. e.0) ys)) ≡ relabelled_expressions f (expression_parts (map (expression itself) (map (λ e. e.0) ys)))
   seen_expressions [] = refl
   seen_expressions (y ∷ ys) = same2 (λ u v. tree.more_expressions u v) y.1 (seen_expressions ys)
 
-  seen_clauses : (ys : List ((e : Alt A) × W e)) → alternative_parts (map (alternative_of f) (map (λ e. e.0) ys)) ≡ relabelled_alternatives f (alternative_parts (map (alternative_of (λ a. a)) (map (λ e. e.0) ys)))
+  seen_clauses : (ys : List ((e : Alt A) × W e)) → alternative_parts (map (alternative_of f) (map (λ e. e.0) ys)) ≡ relabelled_alternatives f (alternative_parts (map (alternative_of itself) (map (λ e. e.0) ys)))
   seen_clauses [] = refl
   seen_clauses (y ∷ ys) = same2 (λ u v. tree.more_alternatives u v) y.1 (seen_clauses ys)
 
-  seen_bodies : (ys : List ((e : Guard A) × G e)) → body_parts (map (guarded f) (map (λ e. e.0) ys)) ≡ relabelled_bodies f (body_parts (map (guarded (λ a. a)) (map (λ e. e.0) ys)))
+  seen_bodies : (ys : List ((e : Guard A) × G e)) → body_parts (map (guarded f) (map (λ e. e.0) ys)) ≡ relabelled_bodies f (body_parts (map (guarded itself) (map (λ e. e.0) ys)))
   seen_bodies [] = refl
   seen_bodies (y ∷ ys) = same2 (λ u v. tree.more_bodies u v) y.1 (seen_bodies ys)
 
-  seen_group : (ys : List ((e : Local A) × L e)) → binding_parts (map (local_binding f) (map (λ e. e.0) ys)) ≡ relabelled_group f (binding_parts (map (local_binding (λ a. a)) (map (λ e. e.0) ys)))
+  seen_group : (ys : List ((e : Local A) × L e)) → binding_parts (map (local_binding f) (map (λ e. e.0) ys)) ≡ relabelled_group f (binding_parts (map (local_binding itself) (map (λ e. e.0) ys)))
   seen_group [] = refl
   seen_group (y ∷ ys) = same2 (λ u v. tree.more_bindings u v) y.1 (seen_group ys)
 
-  seen_statements : (ys : List ((e : Stmt A) × S e)) → statement_parts (map (statement f) (map (λ e. e.0) ys)) ≡ relabelled_statements f (statement_parts (map (statement (λ a. a)) (map (λ e. e.0) ys)))
+  seen_statements : (ys : List ((e : Stmt A) × S e)) → statement_parts (map (statement f) (map (λ e. e.0) ys)) ≡ relabelled_statements f (statement_parts (map (statement itself) (map (λ e. e.0) ys)))
   seen_statements [] = refl
   seen_statements (y ∷ ys) = same2 (λ u v. tree.more_statements u v) y.1 (seen_statements ys)
 
@@ -168,12 +169,12 @@ module _ {A X : Type 0} (f : A → X) where
       ind-Alt A L R S E W G (λ x y is. subst (λ z. L (roll-Local A z)) is (local_layer y)) (λ x y is. subst (λ z. R (roll-Rhs A z)) is (side_layer y)) (λ x y is. subst (λ z. S (roll-Stmt A z)) is (statement_layer y))
       (λ x y is. subst (λ z. E (roll-Expr A z)) is (expression_layer y)) (λ x y is. subst (λ z. W (roll-Alt A z)) is (row_layer y)) (λ x y is. subst (λ z. G (roll-Guard A z)) is (guard_layer y))
 
-  seen_all : (zs : List (Alt A)) → map (alternative_of f) zs ≡ map (relabelled_alternative f) (map (alternative_of (λ a. a)) zs)
+  seen_all : (zs : List (Alt A)) → map (alternative_of f) zs ≡ map (relabelled_alternative f) (map (alternative_of itself) zs)
   seen_all [] = refl
   seen_all (z ∷ zs) = same2 ◌∷◌ (seen_clause z) (seen_all zs)
 
   -- a declaration with what is seen of each annotation
-  pub seen_declaration : (d : Decl A) → declaration f d ≡ relabelled_declaration f (declaration (λ a. a) d)
+  pub seen_declaration : (d : Decl A) → declaration f d ≡ relabelled_declaration f (declaration itself d)
   seen_declaration (Import a name) = refl
   seen_declaration (Data a made) = refl
   seen_declaration (Fixity a side strength names) = refl

@@ -1,6 +1,7 @@
 -- The typed trees of a numbered tree, as `rw_types_numbering` has them.
 use Rattle.std.proofs.Common.{◌≡◌, ◌∙◌, ◌↔◌, ℕ, zero, suc, Bool, List, [], ◌∷◌, map, refl, sym, ap, subst}
 use Rattle.rw_scope_rules.specs.declared.binding.Bound.{Bound}
+use Rattle.rw_tree.specs.Views.{itself}
 use Rattle.rw_tree.specs.declared.decl.Decl.{Decl}
 use Rattle.rw_tree.specs.Declarations.{Declaration, declaration}
 use Rattle.rw_types_solving.specs.declared.term.Sort.{Sort}
@@ -55,5 +56,5 @@ pub instance_is : (t s r : ℕ → Ty) (e : Declaration Numbered) → ((x : ℕ)
 instance_is t s r e h =
     alike_declaration (typed_by t) (λ a. substituted_node r (typed_by s a)) e (node_is t s r h) ∙ sym (twice_declaration (typed_by s) (substituted_node r) e)
 
-pub seen_is : (t : ℕ → Ty) (tree : Decl Numbered) → declaration (typed_by t) tree ≡ relabelled_declaration (typed_by t) (declaration (λ a. a) tree)
+pub seen_is : (t : ℕ → Ty) (tree : Decl Numbered) → declaration (typed_by t) tree ≡ relabelled_declaration (typed_by t) (declaration itself tree)
 seen_is t tree = seen_declaration (typed_by t) tree

@@ -1,5 +1,6 @@
 // Clauses and alternatives, and their right sides: numbered.
 ghost use Rattle.std.specs.Prelude.{◌≡◌, ◌++◌, length, map, IfOk, OnOk};
+ghost use Rattle.rw_tree.specs.Views.{itself};
 ghost use Rattle.rw_tree.specs.Patterns.{patterns};
 ghost use Rattle.rw_tree.specs.Trees.{alternative, alternative_of, alternative_parts, binding_parts, body_parts, guarded, local_binding, right_side};
 ghost use Rattle.rw_types_equations.specs.Seen.{seen_world};
@@ -25,7 +26,7 @@ fn clause_of(
     rhs: Rhs<Numbered>,
     wheres: Items<Local<Numbered>>,
 ) -> Alt<Numbered>
-    ensures { alternative_of (λ a. a) result ≡ alternative at (patterns (λ a. a) pats) (right_side (λ a. a) rhs) (binding_parts (map (local_binding (λ a. a)) wheres)) }
+    ensures { alternative_of itself result ≡ alternative at (patterns itself pats) (right_side itself rhs) (binding_parts (map (local_binding itself) wheres)) }
 {
     Alt {
         at,
@@ -43,8 +44,8 @@ pub fn number_clause(
     tree: &Alt<Bound>,
     kinds: &mut Items<VariableKind>,
 ) -> Result<Alt<Numbered>, OutOfMemory>
-    ensures tree { IfOk result (λ made. alternative_of (λ a. a) made ≡ numbered_clause (seen_world world.now) (length kinds.old) (alternative_of (λ a. a) tree.now)) }
-    ensures kinds { OnOk result (kinds.new ≡ kinds.old ++ clause_slots (seen_world world.now) (alternative_of (λ a. a) tree.now)) }
+    ensures tree { IfOk result (λ made. alternative_of itself made ≡ numbered_clause (seen_world world.now) (length kinds.old) (alternative_of itself tree.now)) }
+    ensures kinds { OnOk result (kinds.new ≡ kinds.old ++ clause_slots (seen_world world.now) (alternative_of itself tree.now)) }
 {
     let at = plain_label(tree.at, kinds)?;
     let pats = number_row(alloc, world, tree.pats.as_slice(), kinds)?;
@@ -60,10 +61,10 @@ pub fn number_clauses(
     trees: &[Alt<Bound>],
     kinds: &mut Items<VariableKind>,
 ) -> Result<Items<Alt<Numbered>>, OutOfMemory>
-    ensures trees { IfOk result (λ made. map (alternative_of (λ a. a)) made ≡ numbered_all_clauses (seen_world world.now) (length kinds.old) (map (alternative_of (λ a. a)) trees.now)) }
-    ensures parts { IfOk result (λ made. alternative_parts (map (alternative_of (λ a. a)) made) ≡ numbered_clauses (seen_world world.now) (length kinds.old) (alternative_parts (map (alternative_of (λ a. a)) trees.now))) }
-    ensures kinds { OnOk result (kinds.new ≡ kinds.old ++ all_clauses_slots (seen_world world.now) (map (alternative_of (λ a. a)) trees.now)) }
-    ensures parts_kinds { OnOk result (kinds.new ≡ kinds.old ++ clauses_slots (seen_world world.now) (alternative_parts (map (alternative_of (λ a. a)) trees.now))) }
+    ensures trees { IfOk result (λ made. map (alternative_of itself) made ≡ numbered_all_clauses (seen_world world.now) (length kinds.old) (map (alternative_of itself) trees.now)) }
+    ensures parts { IfOk result (λ made. alternative_parts (map (alternative_of itself) made) ≡ numbered_clauses (seen_world world.now) (length kinds.old) (alternative_parts (map (alternative_of itself) trees.now))) }
+    ensures kinds { OnOk result (kinds.new ≡ kinds.old ++ all_clauses_slots (seen_world world.now) (map (alternative_of itself) trees.now)) }
+    ensures parts_kinds { OnOk result (kinds.new ≡ kinds.old ++ clauses_slots (seen_world world.now) (alternative_parts (map (alternative_of itself) trees.now))) }
 {
     let mut made = Items::new(alloc);
     for tree in trees {
@@ -79,8 +80,8 @@ fn number_side(
     tree: &Rhs<Bound>,
     kinds: &mut Items<VariableKind>,
 ) -> Result<Rhs<Numbered>, OutOfMemory>
-    ensures tree { IfOk result (λ made. right_side (λ a. a) made ≡ numbered_side (seen_world world.now) (length kinds.old) (right_side (λ a. a) tree.now)) }
-    ensures kinds { OnOk result (kinds.new ≡ kinds.old ++ side_slots (seen_world world.now) (right_side (λ a. a) tree.now)) }
+    ensures tree { IfOk result (λ made. right_side itself made ≡ numbered_side (seen_world world.now) (length kinds.old) (right_side itself tree.now)) }
+    ensures kinds { OnOk result (kinds.new ≡ kinds.old ++ side_slots (seen_world world.now) (right_side itself tree.now)) }
 {
     match tree {
         Rhs::Plain(body) => {
@@ -101,8 +102,8 @@ fn number_guard(
     tree: &Guard<Bound>,
     kinds: &mut Items<VariableKind>,
 ) -> Result<Guard<Numbered>, OutOfMemory>
-    ensures tree { IfOk result (λ made. guarded (λ a. a) made ≡ numbered_body (seen_world world.now) (length kinds.old) (guarded (λ a. a) tree.now)) }
-    ensures kinds { OnOk result (kinds.new ≡ kinds.old ++ body_slots (seen_world world.now) (guarded (λ a. a) tree.now)) }
+    ensures tree { IfOk result (λ made. guarded itself made ≡ numbered_body (seen_world world.now) (length kinds.old) (guarded itself tree.now)) }
+    ensures kinds { OnOk result (kinds.new ≡ kinds.old ++ body_slots (seen_world world.now) (guarded itself tree.now)) }
 {
     let test = number_expr(alloc, world, &tree.test, kinds)?;
     let body = number_expr(alloc, world, &tree.body, kinds)?;
@@ -116,8 +117,8 @@ fn number_guards(
     trees: &[Guard<Bound>],
     kinds: &mut Items<VariableKind>,
 ) -> Result<Items<Guard<Numbered>>, OutOfMemory>
-    ensures trees { IfOk result (λ made. body_parts (map (guarded (λ a. a)) made) ≡ numbered_bodies (seen_world world.now) (length kinds.old) (body_parts (map (guarded (λ a. a)) trees.now))) }
-    ensures kinds { OnOk result (kinds.new ≡ kinds.old ++ bodies_slots (seen_world world.now) (body_parts (map (guarded (λ a. a)) trees.now))) }
+    ensures trees { IfOk result (λ made. body_parts (map (guarded itself) made) ≡ numbered_bodies (seen_world world.now) (length kinds.old) (body_parts (map (guarded itself) trees.now))) }
+    ensures kinds { OnOk result (kinds.new ≡ kinds.old ++ bodies_slots (seen_world world.now) (body_parts (map (guarded itself) trees.now))) }
 {
     let mut made = Items::new(alloc);
     for tree in trees {

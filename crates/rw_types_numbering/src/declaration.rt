@@ -1,5 +1,6 @@
 // Declarations: numbered.
 ghost use Rattle.std.specs.Prelude.{◌≡◌, ◌++◌, length, IfOk, OnOk};
+ghost use Rattle.rw_tree.specs.Views.{itself};
 ghost use Rattle.rw_tree.specs.Declarations.{declaration};
 ghost use Rattle.rw_types_equations.specs.Seen.{seen_world};
 ghost use Rattle.rw_types_numbering.specs.Slots.{declaration_slots};
@@ -23,8 +24,8 @@ fn number_decl(
     tree: &Decl<Bound>,
     kinds: &mut Items<VariableKind>,
 ) -> Result<Decl<Numbered>, OutOfMemory>
-    ensures tree { IfOk result (λ made. declaration (λ a. a) made ≡ numbered_declaration (seen_world world.now) (length kinds.old) (declaration (λ a. a) tree.now)) }
-    ensures kinds { OnOk result (kinds.new ≡ kinds.old ++ declaration_slots (seen_world world.now) (declaration (λ a. a) tree.now)) }
+    ensures tree { IfOk result (λ made. declaration itself made ≡ numbered_declaration (seen_world world.now) (length kinds.old) (declaration itself tree.now)) }
+    ensures kinds { OnOk result (kinds.new ≡ kinds.old ++ declaration_slots (seen_world world.now) (declaration itself tree.now)) }
 {
     match tree {
         Decl::Import(at, name) => {
@@ -63,8 +64,8 @@ pub fn number_declaration(
     tree: &Decl<Bound>,
     world: &World,
 ) -> Result<(Decl<Numbered>, Items<VariableKind>), OutOfMemory>
-    ensures numbered { IfOk result (λ made. declaration (λ a. a) made.0 ≡ numbered_declaration (seen_world world.now) 0 (declaration (λ a. a) tree.now)) }
-    ensures slots { IfOk result (λ made. made.1 ≡ declaration_slots (seen_world world.now) (declaration (λ a. a) tree.now)) }
+    ensures numbered { IfOk result (λ made. declaration itself made.0 ≡ numbered_declaration (seen_world world.now) 0 (declaration itself tree.now)) }
+    ensures slots { IfOk result (λ made. made.1 ≡ declaration_slots (seen_world world.now) (declaration itself tree.now)) }
 {
     let mut kinds = Items::new(alloc);
     let made = number_decl(alloc, world, tree, &mut kinds)?;

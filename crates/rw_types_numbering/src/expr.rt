@@ -1,5 +1,6 @@
 // Expressions: numbered.
 ghost use Rattle.std.specs.Prelude.{◌≡◌, ◌++◌, length, map, IfOk, OnOk};
+ghost use Rattle.rw_tree.specs.Views.{itself};
 ghost use Rattle.rw_tree.specs.Trees.{expression, expression_parts};
 ghost use Rattle.rw_types_equations.specs.Seen.{seen_world};
 ghost use Rattle.rw_types_numbering.specs.Slots.{expression_slots, expressions_slots};
@@ -26,8 +27,8 @@ pub fn number_expr(
     tree: &Expr<Bound>,
     kinds: &mut Items<VariableKind>,
 ) -> Result<Expr<Numbered>, OutOfMemory>
-    ensures tree { IfOk result (λ made. expression (λ a. a) made ≡ numbered_expression (seen_world world.now) (length kinds.old) (expression (λ a. a) tree.now)) }
-    ensures kinds { OnOk result (kinds.new ≡ kinds.old ++ expression_slots (seen_world world.now) (expression (λ a. a) tree.now)) }
+    ensures tree { IfOk result (λ made. expression itself made ≡ numbered_expression (seen_world world.now) (length kinds.old) (expression itself tree.now)) }
+    ensures kinds { OnOk result (kinds.new ≡ kinds.old ++ expression_slots (seen_world world.now) (expression itself tree.now)) }
 {
     match tree {
         Expr::Var(at, name) => {
@@ -95,8 +96,8 @@ fn number_boxed(
     tree: &Boxed<Expr<Bound>>,
     kinds: &mut Items<VariableKind>,
 ) -> Result<Boxed<Expr<Numbered>>, OutOfMemory>
-    ensures tree { IfOk result (λ made. expression (λ a. a) made ≡ numbered_expression (seen_world world.now) (length kinds.old) (expression (λ a. a) tree.now)) }
-    ensures kinds { OnOk result (kinds.new ≡ kinds.old ++ expression_slots (seen_world world.now) (expression (λ a. a) tree.now)) }
+    ensures tree { IfOk result (λ made. expression itself made ≡ numbered_expression (seen_world world.now) (length kinds.old) (expression itself tree.now)) }
+    ensures kinds { OnOk result (kinds.new ≡ kinds.old ++ expression_slots (seen_world world.now) (expression itself tree.now)) }
 {
     Ok(Boxed::new(alloc, number_expr(alloc, world, tree.get(), kinds)?)?)
 }
@@ -108,8 +109,8 @@ fn number_exprs(
     trees: &[Expr<Bound>],
     kinds: &mut Items<VariableKind>,
 ) -> Result<Items<Expr<Numbered>>, OutOfMemory>
-    ensures trees { IfOk result (λ made. expression_parts (map (expression (λ a. a)) made) ≡ numbered_expressions (seen_world world.now) (length kinds.old) (expression_parts (map (expression (λ a. a)) trees.now))) }
-    ensures kinds { OnOk result (kinds.new ≡ kinds.old ++ expressions_slots (seen_world world.now) (expression_parts (map (expression (λ a. a)) trees.now))) }
+    ensures trees { IfOk result (λ made. expression_parts (map (expression itself) made) ≡ numbered_expressions (seen_world world.now) (length kinds.old) (expression_parts (map (expression itself) trees.now))) }
+    ensures kinds { OnOk result (kinds.new ≡ kinds.old ++ expressions_slots (seen_world world.now) (expression_parts (map (expression itself) trees.now))) }
 {
     let mut made = Items::new(alloc);
     for tree in trees {

@@ -1,5 +1,6 @@
 // Let groups: numbered.
 ghost use Rattle.std.specs.Prelude.{◌≡◌, ◌++◌, length, map, IfOk, OnOk};
+ghost use Rattle.rw_tree.specs.Views.{itself};
 ghost use Rattle.rw_tree.specs.Trees.{binding_parts, local_binding};
 ghost use Rattle.rw_types_equations.specs.Seen.{seen_world};
 ghost use Rattle.rw_types_numbering.specs.Slots.{binding_slots, group_slots};
@@ -24,8 +25,8 @@ fn number_local(
     tree: &Local<Bound>,
     kinds: &mut Items<VariableKind>,
 ) -> Result<Local<Numbered>, OutOfMemory>
-    ensures tree { IfOk result (λ made. local_binding (λ a. a) made ≡ numbered_binding (seen_world world.now) (length kinds.old) (local_binding (λ a. a) tree.now)) }
-    ensures kinds { OnOk result (kinds.new ≡ kinds.old ++ binding_slots (seen_world world.now) (local_binding (λ a. a) tree.now)) }
+    ensures tree { IfOk result (λ made. local_binding itself made ≡ numbered_binding (seen_world world.now) (length kinds.old) (local_binding itself tree.now)) }
+    ensures kinds { OnOk result (kinds.new ≡ kinds.old ++ binding_slots (seen_world world.now) (local_binding itself tree.now)) }
 {
     match tree {
         Local::Sig(at, name, written) => {
@@ -55,8 +56,8 @@ pub fn number_group(
     trees: &[Local<Bound>],
     kinds: &mut Items<VariableKind>,
 ) -> Result<Items<Local<Numbered>>, OutOfMemory>
-    ensures trees { IfOk result (λ made. binding_parts (map (local_binding (λ a. a)) made) ≡ numbered_group (seen_world world.now) (length kinds.old) (binding_parts (map (local_binding (λ a. a)) trees.now))) }
-    ensures kinds { OnOk result (kinds.new ≡ kinds.old ++ group_slots (seen_world world.now) (binding_parts (map (local_binding (λ a. a)) trees.now))) }
+    ensures trees { IfOk result (λ made. binding_parts (map (local_binding itself) made) ≡ numbered_group (seen_world world.now) (length kinds.old) (binding_parts (map (local_binding itself) trees.now))) }
+    ensures kinds { OnOk result (kinds.new ≡ kinds.old ++ group_slots (seen_world world.now) (binding_parts (map (local_binding itself) trees.now))) }
 {
     let mut made = Items::new(alloc);
     for tree in trees {

@@ -1,6 +1,7 @@
 // Laws of numbered trees: each is the contract of a function that does nothing.
 ghost use Rattle.std.specs.Prelude.{◌≡◌, ◌↔◌, ℕ, Bool};
 ghost use Rattle.rw_scope_rules.specs.declared.binding.Bound.{Bound};
+ghost use Rattle.rw_tree.specs.Views.{itself};
 ghost use Rattle.rw_tree.specs.declared.decl.Decl.{Decl};
 ghost use Rattle.rw_tree.specs.Declarations.{Declaration, declaration};
 ghost use Rattle.rw_types_solving.specs.declared.term.Sort.{Sort};
@@ -39,5 +40,5 @@ pub fn instance_law()
 
 /// The typed tree that is read off a numbered tree of the code is that of its plain form.
 pub fn seen_law()
-    ensures { (t : ℕ → Ty) (tree : Decl Numbered) → declaration (typed_by t) tree ≡ relabelled_declaration (typed_by t) (declaration (λ a. a) tree) }
+    ensures { (t : ℕ → Ty) (tree : Decl Numbered) → declaration (typed_by t) tree ≡ relabelled_declaration (typed_by t) (declaration itself tree) }
 {}

@@ -1,5 +1,6 @@
 // Patterns: numbered.
 ghost use Rattle.std.specs.Prelude.{◌≡◌, ◌++◌, length, IfOk, OnOk};
+ghost use Rattle.rw_tree.specs.Views.{itself};
 ghost use Rattle.rw_tree.specs.Patterns.{pattern, pattern_parts, patterns};
 ghost use Rattle.rw_types_equations.specs.Seen.{seen_world};
 ghost use Rattle.rw_types_numbering.specs.Slots.{parts_slots, pattern_slots, row_slots};
@@ -22,8 +23,8 @@ pub fn number_pattern(
     tree: &Pat<Bound>,
     kinds: &mut Items<VariableKind>,
 ) -> Result<Pat<Numbered>, OutOfMemory>
-    ensures tree { IfOk result (λ made. pattern (λ a. a) made ≡ numbered_pattern (seen_world world.now) (length kinds.old) (pattern (λ a. a) tree.now)) }
-    ensures kinds { OnOk result (kinds.new ≡ kinds.old ++ pattern_slots (seen_world world.now) (pattern (λ a. a) tree.now)) }
+    ensures tree { IfOk result (λ made. pattern itself made ≡ numbered_pattern (seen_world world.now) (length kinds.old) (pattern itself tree.now)) }
+    ensures kinds { OnOk result (kinds.new ≡ kinds.old ++ pattern_slots (seen_world world.now) (pattern itself tree.now)) }
 {
     match tree {
         Pat::Wild(at) => {
@@ -56,10 +57,10 @@ pub fn number_row(
     trees: &[Pat<Bound>],
     kinds: &mut Items<VariableKind>,
 ) -> Result<Items<Pat<Numbered>>, OutOfMemory>
-    ensures trees { IfOk result (λ made. patterns (λ a. a) made ≡ numbered_row (seen_world world.now) (length kinds.old) (patterns (λ a. a) trees.now)) }
-    ensures parts { IfOk result (λ made. pattern_parts (patterns (λ a. a) made) ≡ numbered_parts (seen_world world.now) (length kinds.old) (pattern_parts (patterns (λ a. a) trees.now))) }
-    ensures kinds { OnOk result (kinds.new ≡ kinds.old ++ row_slots (seen_world world.now) (patterns (λ a. a) trees.now)) }
-    ensures parts_kinds { OnOk result (kinds.new ≡ kinds.old ++ parts_slots (seen_world world.now) (pattern_parts (patterns (λ a. a) trees.now))) }
+    ensures trees { IfOk result (λ made. patterns itself made ≡ numbered_row (seen_world world.now) (length kinds.old) (patterns itself trees.now)) }
+    ensures parts { IfOk result (λ made. pattern_parts (patterns itself made) ≡ numbered_parts (seen_world world.now) (length kinds.old) (pattern_parts (patterns itself trees.now))) }
+    ensures kinds { OnOk result (kinds.new ≡ kinds.old ++ row_slots (seen_world world.now) (patterns itself trees.now)) }
+    ensures parts_kinds { OnOk result (kinds.new ≡ kinds.old ++ parts_slots (seen_world world.now) (pattern_parts (patterns itself trees.now))) }
 {
     let mut made = Items::new(alloc);
     for tree in trees {

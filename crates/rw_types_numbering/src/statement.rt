@@ -1,5 +1,6 @@
 // Statements of a block: numbered. The last one is of no instance.
 ghost use Rattle.std.specs.Prelude.{◌≡◌, ◌++◌, length, map, true, false, IfOk, OnOk};
+ghost use Rattle.rw_tree.specs.Views.{itself};
 ghost use Rattle.rw_tree.specs.Trees.{expression, run_statement, statement, statement_parts};
 ghost use Rattle.rw_types_equations.specs.Seen.{seen_world};
 ghost use Rattle.rw_types_numbering.specs.Slots.{statement_slots, statements_slots};
@@ -26,8 +27,8 @@ fn number_last(
     body: &Expr<Bound>,
     kinds: &mut Items<VariableKind>,
 ) -> Result<Stmt<Numbered>, OutOfMemory>
-    ensures tree { IfOk result (λ made. statement (λ a. a) made ≡ numbered_statement (seen_world world.now) true (length kinds.old) (run_statement at (expression (λ a. a) body.now))) }
-    ensures kinds { OnOk result (kinds.new ≡ kinds.old ++ statement_slots (seen_world world.now) true (run_statement at (expression (λ a. a) body.now))) }
+    ensures tree { IfOk result (λ made. statement itself made ≡ numbered_statement (seen_world world.now) true (length kinds.old) (run_statement at (expression itself body.now))) }
+    ensures kinds { OnOk result (kinds.new ≡ kinds.old ++ statement_slots (seen_world world.now) true (run_statement at (expression itself body.now))) }
 {
     let at = plain_label(at, kinds)?;
     let body = number_expr(alloc, world, body, kinds)?;
@@ -43,8 +44,8 @@ fn number_run(
     body: &Expr<Bound>,
     kinds: &mut Items<VariableKind>,
 ) -> Result<Stmt<Numbered>, OutOfMemory>
-    ensures tree { IfOk result (λ made. statement (λ a. a) made ≡ numbered_statement (seen_world world.now) false (length kinds.old) (run_statement at (expression (λ a. a) body.now))) }
-    ensures kinds { OnOk result (kinds.new ≡ kinds.old ++ statement_slots (seen_world world.now) false (run_statement at (expression (λ a. a) body.now))) }
+    ensures tree { IfOk result (λ made. statement itself made ≡ numbered_statement (seen_world world.now) false (length kinds.old) (run_statement at (expression itself body.now))) }
+    ensures kinds { OnOk result (kinds.new ≡ kinds.old ++ statement_slots (seen_world world.now) false (run_statement at (expression itself body.now))) }
 {
     let at = operation_label(alloc, Operation::Then, at, kinds)?;
     let body = number_expr(alloc, world, body, kinds)?;
@@ -60,8 +61,8 @@ fn number_statement(
     tree: &Stmt<Bound>,
     kinds: &mut Items<VariableKind>,
 ) -> Result<Stmt<Numbered>, OutOfMemory>
-    ensures tree { IfOk result (λ made. statement (λ a. a) made ≡ numbered_statement (seen_world world.now) last (length kinds.old) (statement (λ a. a) tree.now)) }
-    ensures kinds { OnOk result (kinds.new ≡ kinds.old ++ statement_slots (seen_world world.now) last (statement (λ a. a) tree.now)) }
+    ensures tree { IfOk result (λ made. statement itself made ≡ numbered_statement (seen_world world.now) last (length kinds.old) (statement itself tree.now)) }
+    ensures kinds { OnOk result (kinds.new ≡ kinds.old ++ statement_slots (seen_world world.now) last (statement itself tree.now)) }
 {
     match tree {
         Stmt::Bind(at, pat, body) => {
@@ -93,8 +94,8 @@ pub fn number_statements(
     trees: &[Stmt<Bound>],
     kinds: &mut Items<VariableKind>,
 ) -> Result<Items<Stmt<Numbered>>, OutOfMemory>
-    ensures trees { IfOk result (λ made. statement_parts (map (statement (λ a. a)) made) ≡ numbered_statements (seen_world world.now) (length kinds.old) (statement_parts (map (statement (λ a. a)) trees.now))) }
-    ensures kinds { OnOk result (kinds.new ≡ kinds.old ++ statements_slots (seen_world world.now) (statement_parts (map (statement (λ a. a)) trees.now))) }
+    ensures trees { IfOk result (λ made. statement_parts (map (statement itself) made) ≡ numbered_statements (seen_world world.now) (length kinds.old) (statement_parts (map (statement itself) trees.now))) }
+    ensures kinds { OnOk result (kinds.new ≡ kinds.old ++ statements_slots (seen_world world.now) (statement_parts (map (statement itself) trees.now))) }
 {
     let mut made = Items::new(alloc);
     for (i, tree) in trees.iter().enumerate() {

@@ -1,5 +1,6 @@
 -- The group of a `case` and of a lambda, and none of other expressions.
 use Rattle.std.proofs.Common.{refl}
+use Rattle.rw_tree.specs.Views.{itself}
 use Rattle.rw_tree.proofs.Plains.{expression-Var, expression-Con, expression-Apply, expression-Tuple, expression-Chain, expression-Let, expression-If, expression-Do}
 use Rattle.rw_cover.proofs.Forms.{case_first, expression_is, lambda_first, no_group}
 use Rattle.rw_cover.proofs.group.expression_place.Goals as goal
@@ -15,25 +16,25 @@ returns-in_ok-covered-in-Lambda c =
     c.in-Lambda.is c.as_slice-in-Lambda.ensures c.in_ok-covered-in-Lambda.ensures c.unless-in-Lambda.ensures
 
 pub returns-in-Var : goal.returns-in-Var
-returns-in-Var c = no_group _ (expression_is c.args.counts.now c.args.known.now _ _ _ c.in-Var.is (expression-Var (λ a. a) c.in-Var.field-0 c.in-Var.field-1) refl)
+returns-in-Var c = no_group _ (expression_is c.args.counts.now c.args.known.now _ _ _ c.in-Var.is (expression-Var itself c.in-Var.field-0 c.in-Var.field-1) refl)
 
 pub returns-in-Con : goal.returns-in-Con
-returns-in-Con c = no_group _ (expression_is c.args.counts.now c.args.known.now _ _ _ c.in-Con.is (expression-Con (λ a. a) c.in-Con.field-0 c.in-Con.field-1) refl)
+returns-in-Con c = no_group _ (expression_is c.args.counts.now c.args.known.now _ _ _ c.in-Con.is (expression-Con itself c.in-Con.field-0 c.in-Con.field-1) refl)
 
 pub returns-in-Apply : goal.returns-in-Apply
-returns-in-Apply c = no_group _ (expression_is c.args.counts.now c.args.known.now _ _ _ c.in-Apply.is (expression-Apply (λ a. a) c.in-Apply.field-0 c.in-Apply.field-1 c.in-Apply.field-2) refl)
+returns-in-Apply c = no_group _ (expression_is c.args.counts.now c.args.known.now _ _ _ c.in-Apply.is (expression-Apply itself c.in-Apply.field-0 c.in-Apply.field-1 c.in-Apply.field-2) refl)
 
 pub returns-in-Tuple : goal.returns-in-Tuple
-returns-in-Tuple c = no_group _ (expression_is c.args.counts.now c.args.known.now _ _ _ c.in-Tuple.is (expression-Tuple (λ a. a) c.in-Tuple.field-0 c.in-Tuple.field-1) refl)
+returns-in-Tuple c = no_group _ (expression_is c.args.counts.now c.args.known.now _ _ _ c.in-Tuple.is (expression-Tuple itself c.in-Tuple.field-0 c.in-Tuple.field-1) refl)
 
 pub returns-in-Chain : goal.returns-in-Chain
-returns-in-Chain c = no_group _ (expression_is c.args.counts.now c.args.known.now _ _ _ c.in-Chain.is (expression-Chain (λ a. a) c.in-Chain.field-0 c.in-Chain.field-1 c.in-Chain.field-2) refl)
+returns-in-Chain c = no_group _ (expression_is c.args.counts.now c.args.known.now _ _ _ c.in-Chain.is (expression-Chain itself c.in-Chain.field-0 c.in-Chain.field-1 c.in-Chain.field-2) refl)
 
 pub returns-in-Let : goal.returns-in-Let
-returns-in-Let c = no_group _ (expression_is c.args.counts.now c.args.known.now _ _ _ c.in-Let.is (expression-Let (λ a. a) c.in-Let.field-0 c.in-Let.field-1 c.in-Let.field-2) refl)
+returns-in-Let c = no_group _ (expression_is c.args.counts.now c.args.known.now _ _ _ c.in-Let.is (expression-Let itself c.in-Let.field-0 c.in-Let.field-1 c.in-Let.field-2) refl)
 
 pub returns-in-If : goal.returns-in-If
-returns-in-If c = no_group _ (expression_is c.args.counts.now c.args.known.now _ _ _ c.in-If.is (expression-If (λ a. a) c.in-If.field-0 c.in-If.field-1 c.in-If.field-2 c.in-If.field-3) refl)
+returns-in-If c = no_group _ (expression_is c.args.counts.now c.args.known.now _ _ _ c.in-If.is (expression-If itself c.in-If.field-0 c.in-If.field-1 c.in-If.field-2 c.in-If.field-3) refl)
 
 pub returns-in-Do : goal.returns-in-Do
-returns-in-Do c = no_group _ (expression_is c.args.counts.now c.args.known.now _ _ _ c.in-Do.is (expression-Do (λ a. a) c.in-Do.field-0 c.in-Do.field-1) refl)
+returns-in-Do c = no_group _ (expression_is c.args.counts.now c.args.known.now _ _ _ c.in-Do.is (expression-Do itself c.in-Do.field-0 c.in-Do.field-1) refl)

@@ -1,5 +1,6 @@
 -- What the loop keeps: the table says what the declarations from here on declare.
 use Rattle.std.proofs.Common.{◌≡◌, ◌≤◌, drop, length, map}
+use Rattle.rw_tree.specs.Views.{itself}
 use Rattle.rw_tree.specs.Declarations.{declaration}
 use Rattle.rw_scope_rules.specs.Names.{Bytes, first_named}
 use Rattle.rw_scope_rules.specs.Bindings.{declared_by, declared_constructors}
@@ -8,7 +9,7 @@ use Rattle.rw_scope_binding.proofs.fill.constructors_of.Given as goal
 abbrev pub invariant-loop-at : goal.invariant-loop-at
 invariant-loop-at l = record {
   within : l.at ≤ length l.decls;
-  told : (x : Bytes) → first_named x l.table ≡ first_named x (declared_by declared_constructors l.at (map (declaration (λ a. a)) (drop l.at l.decls)));
+  told : (x : Bytes) → first_named x l.table ≡ first_named x (declared_by declared_constructors l.at (map (declaration itself) (drop l.at l.decls)));
 }
 
 abbrev pub decreases-loop-at : goal.decreases-loop-at

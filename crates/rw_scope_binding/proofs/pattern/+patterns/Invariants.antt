@@ -1,5 +1,6 @@
 -- What the loop keeps: what was bound, before what is left to be bound, is the whole.
 use Rattle.std.proofs.Common.{◌≡◌, ◌+◌, ◌++◌, length, drop}
+use Rattle.rw_tree.specs.Views.{itself}
 use Rattle.rw_tree.specs.Patterns.{patterns}
 use Rattle.rw_scope_rules.specs.Bindings.{row_variables}
 use Rattle.rw_scope_binding.specs.Numbered.{known, numbered_row}
@@ -7,6 +8,6 @@ use Rattle.rw_scope_binding.proofs.pattern.+patterns.Given as goal
 
 abbrev pub invariant-bind_row-loop-pat : goal.invariant-bind_row-loop-pat
 invariant-bind_row-loop-pat l = record {
-  trees : patterns (λ a. a) l.bound ++ numbered_row (known l.tops) l.number (patterns (λ a. a) (drop l.pat-index l.pats)) ≡ numbered_row (known l.tops) l.fn.number (patterns (λ a. a) l.pats);
-  count : l.number + length (row_variables (patterns (λ a. a) (drop l.pat-index l.pats))) ≡ l.fn.number + length (row_variables (patterns (λ a. a) l.pats));
+  trees : patterns itself l.bound ++ numbered_row (known l.tops) l.number (patterns itself (drop l.pat-index l.pats)) ≡ numbered_row (known l.tops) l.fn.number (patterns itself l.pats);
+  count : l.number + length (row_variables (patterns itself (drop l.pat-index l.pats))) ≡ l.fn.number + length (row_variables (patterns itself l.pats));
 }

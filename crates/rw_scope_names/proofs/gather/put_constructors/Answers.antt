@@ -1,5 +1,6 @@
 -- A data type more: its constructors are put in.
 use Rattle.std.proofs.Common.{◌∙◌, [], sym, ap, map, arith}
+use Rattle.rw_tree.specs.Views.{itself}
 use Rattle.rw_tree.specs.Declarations.{declaration, plain_constructor}
 use Rattle.rw_scope_rules.specs.Names.{is_among}
 use Rattle.rw_scope_rules.specs.Bindings.{names_of}
@@ -14,7 +15,7 @@ loop-decl-preserved c = λ x.
       | in-Data+in_ok-put_made w ↦
           declared_put constructors_at c.args.decls.now c.loop-decl.decl-index c.decl-item.result c.match-decl.set c.loop-decl.set
           (map (λ k. k.constructor_name) (map plain_constructor w.as_slice.result.now)) x _ (omega arith) c.decl-item.is
-          (ap (λ d. names_of (constructors_at (declaration (λ a. a) d))) w.in-Data.is ∙ names_of-spread _ _ ∙ ap (λ ks. map (λ k. k.constructor_name) (map plain_constructor ks)) (sym w.as_slice.ensures))
+          (ap (λ d. names_of (constructors_at (declaration itself d))) w.in-Data.is ∙ names_of-spread _ _ ∙ ap (λ ks. map (λ k. k.constructor_name) (map plain_constructor ks)) (sym w.as_slice.ensures))
           (ap (is_among x) w.set-is ∙ w.in_ok-put_made.ensures x) (c.loop-decl.invariant x)
       | in_default w ↦
           declared_put constructors_at c.args.decls.now c.loop-decl.decl-index c.decl-item.result c.match-decl.set c.loop-decl.set [] x _ (omega arith) c.decl-item.is

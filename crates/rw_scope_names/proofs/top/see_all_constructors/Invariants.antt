@@ -1,5 +1,6 @@
 -- What the loop keeps: the declarations that are left are judged behind what was seen.
 use Rattle.std.proofs.Common.{◌≡◌, ◌++◌, drop, map, flat_map}
+use Rattle.rw_tree.specs.Views.{itself}
 use Rattle.rw_tree.specs.Declarations.{declaration}
 use Rattle.rw_scope_rules.specs.Names.{repeated}
 use Rattle.rw_scope_rules.specs.Scope.{constructors_at}
@@ -7,5 +8,5 @@ use Rattle.rw_scope_names.proofs.top.see_all_constructors.Given as goal
 
 abbrev pub invariant-loop-decl : goal.invariant-loop-decl
 invariant-loop-decl l =
-    l.places.items ++ repeated l.seen (flat_map constructors_at (map (declaration (λ a. a)) (drop l.decl-index l.decls)))
-    ≡ l.fn.places.items ++ repeated l.fn.seen (flat_map constructors_at (map (declaration (λ a. a)) l.decls))
+    l.places.items ++ repeated l.seen (flat_map constructors_at (map (declaration itself) (drop l.decl-index l.decls)))
+    ≡ l.fn.places.items ++ repeated l.fn.seen (flat_map constructors_at (map (declaration itself) l.decls))

@@ -1,5 +1,6 @@
 -- The first test is found, and its body and the other guards are left.
 use Rattle.std.proofs.Common.{arith}
+use Rattle.rw_tree.specs.Views.{itself}
 use Rattle.rw_tree.specs.Trees.{guarded}
 use Rattle.rw_scope_rules.specs.Nodes.{body_nodes}
 use Rattle.rw_scope_nodes.specs.Plain.{left_nodes, plain_nodes}
@@ -9,7 +10,7 @@ use Rattle.rw_scope_nodes.proofs.step.step_guards.Goals as goal
 
 pub returns-in_ok-push-in-Some-2-clause-nodes : goal.returns-in_ok-push-in-Some-2-clause-nodes
 returns-in_ok-push-in-Some-2-clause-nodes g c =
-    on_ok c.find_expression.result (λ h. several body_nodes (guarded (λ a. a)) c.args.trees.now c.in-Some.rest.now c.in-Some.first.now (plain_nodes c.args.found.now.items) (left_nodes c.args.left.now.items) (left_nodes c.push.new.self.items) _
+    on_ok c.find_expression.result (λ h. several body_nodes (guarded itself) c.args.trees.now c.in-Some.rest.now c.in-Some.first.now (plain_nodes c.args.found.now.items) (left_nodes c.args.left.now.items) (left_nodes c.push.new.self.items) _
     c.in-Some.ensures.cases.0 (left_more _ _ _ c.in_ok-push-in-Some.ensures.items)
     (guard_first c.in-Some.first.now (plain_nodes c.args.found.now.items) (left_nodes c.push-in-Some.new.self.items) (left_nodes c.push.new.self.items) _ (left_more _ _ _ c.in_ok-push-in-Some-2.ensures.items) h)) c.find_expression.ensures.nodes
 

@@ -1,6 +1,7 @@
 -- What is no system is a leaf, and arguments are put before others.
 use Rattle.std.proofs.Common.{rules, ◌≡◌, IfOk, map, [], ◌++◌, sym, ◌∙◌, ap, subst, arith}
 use Rattle.std.proofs.lemmas.Grind.{common_steps}
+use Rattle.rw_tree.specs.Views.{itself}
 use Rattle.rw_tree.specs.Trees.{application, expression_parts}
 use Rattle.rw_tree.proofs.Plains.{expression-Apply}
 use Rattle.rw_meaning.specs.Systems.{leaf, system_with, with_systems, system_of}
@@ -18,7 +19,7 @@ without_arguments-returns-in-Apply t c =
     let parts = expression_parts (map seen c.in-Apply.parts) in
     let whole = seen c.args.whole.now in
     let given = map argument c.args.arguments in
-    let form : seen c.args.expression.now ≡ application c.in-Apply.field-0 (seen c.in-Apply.head) parts = ap seen c.in-Apply.is ∙ expression-Apply (λ a. a) c.in-Apply.field-0 c.in-Apply.head c.in-Apply.parts in
+    let form : seen c.args.expression.now ≡ application c.in-Apply.field-0 (seen c.in-Apply.head) parts = ap seen c.in-Apply.is ∙ expression-Apply itself c.in-Apply.field-0 c.in-Apply.head c.in-Apply.parts in
     let all : map argument c.append.new.self ≡ with_systems parts [] ++ given = grind (arith, common_steps) in
     let more : map argument c.append.new.self ≡ with_systems parts given = all ∙ sym (systems_before parts given) in
     let done : IfOk c.without_arguments.result (λ made. shown made ≡ system_with whole (seen c.in-Apply.head) (map argument c.append.new.self)) = search rules in

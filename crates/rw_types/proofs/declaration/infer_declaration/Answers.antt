@@ -2,6 +2,7 @@
 use Rattle.std.proofs.Common.{◌∙◌, ap}
 use Rattle.std.proofs.lemmas.Result.{err_from_is_err_and}
 use Rattle.rw_scope_rules.specs.declared.binding.Bound.{Bound}
+use Rattle.rw_tree.specs.Views.{itself}
 use Rattle.rw_tree.specs.Declarations.{declaration}
 use Rattle.rw_types_rules.specs.Relabelled.{relabelled_declaration}
 use Rattle.rw_types_rules.specs.Schemes.{scheme_at}
@@ -16,7 +17,7 @@ pub returns-in_err-types-clause-refused : goal.returns-in_err-types-clause-refus
 returns-in_err-types-clause-refused c = λ h.
     let p = err_from_is_err_and c.from_residual-in_err-types.result c.from_residual-in_err-types.ensures.1 in
     let world = seen_world c.args.world.now in
-    let d = declaration (λ a. a) c.args.decl.now in
+    let d = declaration itself c.args.decl.now in
     untypable world d c.in_ok-tree.tree (numbered_declaration world 0 d) c.as_slice.result.now c.as_slice-2.result.now
     (c.erased_law.ensures world 0 d) (λ v y typed. c.assignment_law.ensures v y world d typed) (λ v y t. c.typing_law.ensures v y world t d) (λ t s r. c.instance_law.ensures t s r (numbered_declaration world 0 d))
     (λ t. c.seen_law.ensures t c.in_ok-tree.tree ∙ ap (relabelled_declaration (typed_by t)) c.in_ok-tree.ensures.numbered)
@@ -26,7 +27,7 @@ returns-in_err-types-clause-refused c = λ h.
 pub returns-clause-default : goal.returns-clause-default
 returns-clause-default c =
     let world = seen_world c.args.world.now in
-    let d = declaration (λ a. a) c.args.decl.now in
+    let d = declaration itself c.args.decl.now in
     default_is world d c.in_ok-tree.tree (numbered_declaration world 0 d) c.as_slice.result.now c.as_slice-2.result.now
     (c.erased_law.ensures world 0 d) (λ v y typed. c.assignment_law.ensures v y world d typed) (λ v y t. c.typing_law.ensures v y world t d) (λ t s r. c.instance_law.ensures t s r (numbered_declaration world 0 d))
     (λ t. c.seen_law.ensures t c.in_ok-tree.tree ∙ ap (relabelled_declaration (typed_by t)) c.in_ok-tree.ensures.numbered)
