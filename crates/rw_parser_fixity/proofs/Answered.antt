@@ -1,5 +1,5 @@
 -- The answer of a whole program, from what its declarations resolve to, or from the first that is broken.
-use Rattle.std.proofs.Common.{◌≡◌, ◌∙◌, ℕ, List, Result, Ok, Err, sym, ap, subst}
+use Rattle.std.proofs.Common.{◌≡◌, ◌∙◌, ℕ, List, Ok, Err, ap, subst}
 use Rattle.rw_base.specs.declared.place.Place.{Place}
 use Rattle.rw_base.specs.declared.place.Span.{Span}
 use Rattle.rw_base.specs.Answers.{Fail}

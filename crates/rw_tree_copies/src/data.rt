@@ -18,16 +18,16 @@ fn copied_constructor(alloc: Global, made: &Constructor) -> Result<Constructor, 
 }
 
 /// The same data type again.
-pub fn copied_data(alloc: Global, data: &DataDecl) -> Result<DataDecl, OutOfMemory>
-    ensures { IfOk result (λ copy. copy ≡ data.now) }
+pub fn copied_data(alloc: Global, made: &DataDecl) -> Result<DataDecl, OutOfMemory>
+    ensures { IfOk result (λ copy. copy ≡ made.now) }
 {
     let mut constructors = Items::new(alloc);
-    for constructor in data.constructors.as_slice() {
+    for constructor in made.constructors.as_slice() {
         constructors.push(copied_constructor(alloc, constructor)?)?;
     }
     Ok(DataDecl {
-        name: data.name.copied(alloc)?,
-        params: copied_names(alloc, data.params.as_slice())?,
+        name: made.name.copied(alloc)?,
+        params: copied_names(alloc, made.params.as_slice())?,
         constructors,
     })
 }
