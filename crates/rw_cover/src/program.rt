@@ -12,8 +12,8 @@ ghost use Rattle.rw_cover.specs.Correct.{AllHaveTypes, IsCovered, IsFirst, IsUnl
 ghost use Rattle.rw_cover.specs.Walk.{own_groups};
 
 use crate::group::{node_place, own_place};
-use crate::known::known_of;
 use crate::laws::places_law;
+use crate::named::known_of;
 use crate::place::sooner;
 use crate::{Known, constructor_counts};
 use rw_base::{Fail, OutOfMemory, Place, Refusal, Rule};
