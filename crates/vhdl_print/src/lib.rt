@@ -19,6 +19,7 @@ mod text;
 
 use rw_base::OutOfMemory;
 use std::alloc::Global;
+pub use text::letter_of;
 use vh_tree::{Design, spellable_designs_are_spelled};
 
 /// The canonical text of a design: its tokens in order, in lower case, one space between two of them, but a line
