@@ -1,16 +1,9 @@
 // The sooner of two places in a source.
 ghost use Rattle.std.specs.Prelude.{◌≡◌, if◌then◌else◌};
-ghost use Rattle.rw_scope_rules.specs.Names.{is_before};
 ghost use Rattle.rw_cover.specs.Walk.{sooner as sooner_of};
 
 use rw_base::Place;
-
-// Whether the first of these places stands before the second.
-fn stands_before(one: Place, other: Place) -> bool
-    ensures { result ≡ is_before one other }
-{
-    one.line < other.line || one.line == other.line && one.column < other.column
-}
+use rw_scope_rules::stands_before;
 
 // The sooner of two places, or the one that is there.
 pub fn sooner(one: Option<Place>, other: Option<Place>) -> Option<Place>

@@ -5,7 +5,8 @@ use Rattle.rw_base.specs.declared.place.Span.{Span}
 use Rattle.rw_tree.specs.Declarations.{Declaration, import_declaration, data_declaration, fixity_declaration, signature_declaration, function_declaration}
 use Rattle.rw_scope_rules.specs.Names.{Bytes, same_name, first_named}
 use Rattle.rw_scope_rules.specs.Kinds.{data_mentions, mentioned_by, reached, is_recursive, is_empty, ill_founded}
-use Rattle.rw_cover_laws.proofs.Names.{true_or_false, clash, one_name, In, in_front, in_back, in_parts, without, length_without, in_without, in_flat, among}
+use Rattle.rw_scope_rules.proofs.Basics.{true_or_false, clash, one_name, In, in_front, in_back, in_parts}
+use Rattle.rw_cover_laws.proofs.Names.{without, length_without, in_without, in_flat, among}
 
 abbrev pub keys : List (Bytes × List Bytes) → List Bytes
 keys data_types = map (λ t. t.0) data_types

@@ -1,40 +1,9 @@
--- Lists and names: what is in a list, a list without one of its items, and names that are the same.
-use Rattle.std.proofs.Common.{◌≡◌, ◌⊎◌, inl, inr, refl, sym, ap, subst, ◌∙◌, suc, Bool, true, false, ◌||◌, List, [], ◌∷◌, ◌++◌, flat_map, length}
-use Rattle.std.proofs.lemmas.Slice.Eq.{bytes_eq-Decides}
+-- Lists and names: a list without one of its items, and names that are in a list.
+use Rattle.std.proofs.Common.{◌≡◌, ◌⊎◌, inl, inr, refl, sym, ap, subst, ◌∙◌, suc, Bool, true, false, ◌||◌, List, [], ◌∷◌, flat_map, length}
 use Rattle.rw_scope_rules.specs.Names.{Bytes, same_name, is_among}
-
-pub true_or_false : (b : Bool) → (b ≡ true) ⊎ (b ≡ false)
-true_or_false true = inl refl
-true_or_false false = inr refl
-
-pub clash : {P : Type 0} (b : Bool) → b ≡ true → b ≡ false → P
-clash b e f = let k : true ≡ false = sym e ∙ f in absurd (cc)
-
-pub one_name : (a b : Bytes) → same_name a b ≡ true → a ≡ b
-one_name a b e = (bytes_eq-Decides a b).0 e
-
-pub same_itself : (a : Bytes) → same_name a a ≡ true
-same_itself a = (bytes_eq-Decides a a).1 refl
-
-abbrev pub In : {X : Type 0} → X → List X → Type 0
-In x [] = ⊥
-In x (y ∷ ys) = (x ≡ y) ⊎ In x ys
+use Rattle.rw_scope_rules.proofs.Basics.{same_is, In, in_front, in_back}
 
 module _ {X : Type 0} where
-  pub in_front : (x : X) (xs ys : List X) → In x xs → In x (xs ++ ys)
-  in_front x [] ys h = absurd h
-  in_front x (z ∷ zs) ys (inl e) = inl e
-  in_front x (z ∷ zs) ys (inr r) = inr (in_front x zs ys r)
-
-  pub in_back : (x : X) (xs ys : List X) → In x ys → In x (xs ++ ys)
-  in_back x [] ys h = h
-  in_back x (z ∷ zs) ys h = inr (in_back x zs ys h)
-
-  pub in_parts : (x : X) (xs ys : List X) → In x (xs ++ ys) → (In x xs) ⊎ (In x ys)
-  in_parts x [] ys h = inr h
-  in_parts x (z ∷ zs) ys (inl e) = inl (inl e)
-  in_parts x (z ∷ zs) ys (inr r) = elim (in_parts x zs ys r) [ inl l ↦ inl (inr l) | inr k ↦ inr k ]
-
   -- a list without one of its items
   abbrev pub without : (x : X) (xs : List X) → In x xs → List X
   without x [] i = absurd i
@@ -64,5 +33,5 @@ or_true false b e = e
 
 pub among : (x : Bytes) (names : List Bytes) → In x names → is_among x names ≡ true
 among x [] i = absurd i
-among x (y ∷ ys) (inl e) = ap (λ b. b || is_among x ys) (subst (λ z. same_name x z ≡ true) e (same_itself x))
+among x (y ∷ ys) (inl e) = ap (λ b. b || is_among x ys) (subst (λ z. same_name x z ≡ true) e (same_is x x refl))
 among x (y ∷ ys) (inr r) = or_true (same_name x y) (is_among x ys) (among x ys r)

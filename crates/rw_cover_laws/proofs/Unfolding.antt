@@ -12,7 +12,7 @@ use Rattle.rw_types_solving.specs.declared.term.Head.TheVariants as h
 use Rattle.rw_types_solving.specs.Types.{Ty, var, app, Tys, none, more, tys}
 use Rattle.rw_types_rules.specs.Written.{data_types_from, variable_applied, identity_applied, state_applied, device_applied, data_applied, constructor_applied, type_applied, types_of, type_of, variable_from}
 use Rattle.rw_types_rules.specs.Schemes.{Scheme, constructor_scheme, constructor_schemes, constructed_from}
-use Rattle.rw_cover_laws.proofs.Names.{true_or_false, In, in_front, in_back, in_parts}
+use Rattle.rw_scope_rules.proofs.Basics.{true_or_false, In, in_front, in_back, in_parts}
 use Rattle.rw_cover_laws.proofs.Founded.{NameEnds, mentions_some, each_ends, none_recursive}
 
 -- == What holds of each data type in a type ==

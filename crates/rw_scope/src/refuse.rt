@@ -5,7 +5,7 @@ ghost use Rattle.rw_scope_rules.specs.Verdict.{broken_first};
 ghost use Rattle.rw_base.specs.Answers.{IsJudged};
 
 use rw_base::{Fail, Place, Refusal, Rule};
-use rw_scope_names::earliest;
+use rw_scope_rules::earliest;
 
 // Refuses by this rule at the place that comes first in the source, if there is one.
 pub fn refuse(rule: Rule, places: &[Place]) -> Result<(), Fail>

@@ -1,4 +1,3 @@
 -- The nodes of lists of trees and of each variant of a tree, and what a step of the walk keeps.
-pub mod Lists
 mod Variants
 mod Steps

@@ -17,7 +17,7 @@ use Rattle.rw_tree.specs.Patterns.{Pattern, pattern, patterns}
 use Rattle.rw_tree.specs.Trees.{Expression, Alternative, LocalBinding, Statement, expression, alternative_of, right_side, guarded, local_binding, statement, expression_parts, alternative_parts, binding_parts}
 use Rattle.rw_tree.proofs.Plains as plain
 use Rattle.rw_scope_rules.specs.Nodes.{Node, expression_node, pattern_node, clause_node, group_node, binding_node, statement_node, expression_nodes, expressions_nodes, pattern_nodes, clause_nodes, clauses_nodes, body_nodes, binding_nodes, group_nodes, side_nodes, statement_nodes}
-use Rattle.rw_scope_nodes.proofs.Lists.{patterns_as, expressions_as, clauses_as, bodies_as, group_as, statements_as}
+use Rattle.rw_scope_rules.proofs.Lists.{patterns_as, expressions_as, clauses_as, bodies_as, group_as, statements_as}
 
 -- two lists before and after what equals them
 both : {N : Type 0} (ks ms ls ns : List N) → ks ≡ ls → ms ≡ ns → ks ++ ms ≡ ls ++ ns

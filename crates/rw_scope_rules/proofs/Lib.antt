@@ -1,3 +1,4 @@
 -- Lemmas about the definitions.
 pub mod FirstBroken
+pub mod Lists
 pub mod Basics

@@ -1,10 +1,8 @@
 -- The names that an expression's system leaves out are the heads of its applications; and no rule is broken exactly where both hold.
-use Rattle.std.proofs.Common.{rules, ◌≡◌, ◌∙◌, ℕ, ◌+◌, refl, sym, ap, List, [], ◌∷◌, ◌++◌, length, length-append, append-nil, Option, Some, None, Result, Ok, Err, OnOk, arith}
+use Rattle.std.proofs.Common.{◌≡◌, ◌∙◌, ℕ, ◌+◌, sym, ap, List, [], ◌∷◌, ◌++◌, length, length-append, append-nil, Option, Some, None, Result, Ok, Err, OnOk, arith}
 use Rattle.rw_base.specs.declared.place.Place.{Place}
-use Rattle.rw_base.specs.declared.rule.Rule.{Rule}
 use Rattle.rw_base.specs.declared.rule.Rule.TheVariants.{E15, E16}
 use Rattle.rw_base.specs.Answers.{Fail}
-use Rattle.rw_base.specs.declared.fail.Refusal.{Refusal}
 use Rattle.rw_scope_rules.specs.declared.binding.Operation.TheVariants.{Return, Bind, Then, Get, Put, Lift, Signal, Extrude, Par, Refold}
 use Rattle.rw_scope_rules.specs.declared.binding.Binding.{Binding}
 use Rattle.rw_scope_rules.specs.declared.binding.Binding.TheVariants.{Declared, Operation as Operates, Constructor as Constructs, Local}
@@ -19,6 +17,7 @@ use Rattle.rw_start.specs.Positions.{inner_nodes, is_stray, misplaced, strays}
 use Rattle.rw_start.specs.Start.{improper_start}
 use Rattle.rw_base.specs.Answers.{IsJudged}
 use Rattle.rw_start.specs.Judged.{IsStarted, applications, first_broken_of_two}
+use Rattle.rw_scope_rules.proofs.FirstBroken.{unbroken}
 use Rattle.rw_start.proofs.Found.{parted}
 
 module _ (s : Option ℕ) where
@@ -114,11 +113,6 @@ module _ (s : Option ℕ) where
 
   pub heads_left_out : (e : Expression Bound) → in_tree e ≡ in_system (system_of e)
   heads_left_out e = taken_off e e [] tt (omega arith)
-
--- an unbroken rule has no place, and the answer is what comes after it
-unbroken : (rule : Rule) (places : List Place) (after : Option Refusal) → broken_first rule (earliest places) after ≡ None → (places ≡ []) × (after ≡ None)
-unbroken rule [] after h = (refl, h)
-unbroken rule (p ∷ ps) after h = search rules
 
 pub both_hold : (program : PlainProgram Bound) → first_broken_of_two program ≡ None → IsStarted program
 both_hold program h =

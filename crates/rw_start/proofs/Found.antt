@@ -20,7 +20,7 @@ use Rattle.rw_tree.specs.Trees.{Expression, expression, alternative_of, right_si
 use Rattle.rw_tree.proofs.Plains as plain
 use Rattle.rw_scope_rules.specs.Nodes.{Node, group_node, pattern_nodes, parts_nodes, row_nodes, expression_nodes, expressions_nodes, clause_nodes, clauses_nodes, body_nodes, bodies_nodes, binding_nodes, group_nodes, side_nodes, statement_nodes, statements_nodes}
 use Rattle.rw_start.specs.Positions.{stray_in_node, strays}
-use Rattle.rw_start.proofs.Lists.{expressions_as, clauses_as, bodies_as, group_as, statements_as}
+use Rattle.rw_scope_rules.proofs.Lists.{expressions_as, clauses_as, bodies_as, group_as, statements_as}
 
 abbrev seen : Expr Bound → Expression Bound
 seen = expression itself

@@ -1,6 +1,5 @@
 -- Lemmas about types, and about the names in trees.
 mod Types
-mod Lists
 mod Found
 mod Placed
 mod Answering

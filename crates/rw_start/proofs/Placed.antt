@@ -16,7 +16,7 @@ use Rattle.rw_meaning.specs.Systems.{System, Body, system_of, body_of, start_of}
 use Rattle.rw_systems.specs.Shown.{right_side_of, map_some}
 use Rattle.rw_start.specs.Seen.{wheres_in}
 use Rattle.rw_start.specs.Positions.{beginning, leaves, inner_nodes, barred, strays, without, misplaced_by, misplaced_from, misplaced_with}
-use Rattle.rw_start.proofs.Lists.{group_as}
+use Rattle.rw_scope_rules.proofs.Lists.{group_as}
 use Rattle.rw_start.proofs.Found.{two, parted}
 
 abbrev plain : List (Decl Bound) → List (Declaration Bound)

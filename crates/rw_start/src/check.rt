@@ -4,7 +4,7 @@ ghost use Rattle.rw_base.specs.declared.rule.Rule.TheVariants.{E15, E16};
 ghost use Rattle.rw_tree.specs.Views.{itself};
 ghost use Rattle.rw_tree.specs.Trees.{binding_parts, local_binding};
 ghost use Rattle.rw_tree.specs.Declarations.{declaration, plain_program};
-ghost use Rattle.rw_scope_rules.specs.Names.{earliest as first_of, is_before};
+ghost use Rattle.rw_scope_rules.specs.Names.{earliest as first_of};
 ghost use Rattle.rw_scope_rules.specs.Nodes.{declaration_nodes};
 ghost use Rattle.rw_scope_rules.specs.Verdict.{broken_first};
 ghost use Rattle.rw_systems.specs.Shown.{shown};
@@ -18,37 +18,13 @@ use crate::names::{in_decls, in_group};
 use crate::start::{start_of, type_of_start, wheres_of};
 use crate::system::{add_beginnings, barred, in_parts};
 use rw_base::{Fail, OutOfMemory, Place, Refusal, Rule};
-use rw_scope_rules::Bound;
+use rw_scope_rules::{Bound, earliest};
 use rw_systems::{Parts, split};
 use rw_tree::{Decl, Local, Program};
 use std::alloc::Global;
 
 // A system has at most so many devices.
 const MOST_DEVICES: usize = 64;
-
-// Whether the first of these places stands before the second.
-fn stands_before(one: Place, other: Place) -> bool
-    ensures { result ≡ is_before one other }
-{
-    one.line < other.line || one.line == other.line && one.column < other.column
-}
-
-// The place that comes first in the source.
-fn earliest(places: &[Place]) -> Option<Place>
-    ensures { result ≡ first_of places.now }
-{
-    let mut first = None;
-    let mut at = places.len();
-    while at > 0 {
-        at -= 1;
-        let place = places[at];
-        match first {
-            Some(found) if stands_before(found, place) => {}
-            _ => first = Some(place),
-        }
-    }
-    first
-}
 
 // Refuses by this rule at the place that comes first in the source, if there is one.
 fn refuse(rule: Rule, places: &[Place]) -> Result<(), Fail>

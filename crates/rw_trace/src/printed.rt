@@ -5,23 +5,7 @@ ghost use Rattle.rw_trace.specs.Traces.{line_of};
 
 use rw_base::{Bit9, OutOfMemory, Text};
 use std::alloc::Global;
-
-// The letter of a value of a wire.
-fn letter_of(bit: Bit9) -> u8
-    ensures { result ≡ letter bit }
-{
-    match bit {
-        Bit9::U => b'U',
-        Bit9::X => b'X',
-        Bit9::Zero => b'0',
-        Bit9::One => b'1',
-        Bit9::Z => b'Z',
-        Bit9::W => b'W',
-        Bit9::L => b'L',
-        Bit9::H => b'H',
-        Bit9::Dash => b'-',
-    }
-}
+use vhdl_print::letter_of;
 
 // Appends the letters of values.
 fn push_letters(text: &mut Text, bits: &[Bit9]) -> Result<(), OutOfMemory>

@@ -1,5 +1,5 @@
 // The kinds of the variables of a declaration's own signature.
-ghost use Rattle.std.specs.Prelude.{◌≡◌, IfOk, None, get_or, slice_get, [], option_copied};
+ghost use Rattle.std.specs.Prelude.{◌≡◌, IfOk, option_copied};
 ghost use Rattle.rw_types_rules.specs.Schemes.{scheme_at};
 ghost use Rattle.rw_types_rules.specs.Typings.{scheme_kinds};
 ghost use Rattle.rw_types_equations.specs.Seen.{seen_option, seen_world};
@@ -7,32 +7,10 @@ ghost use Rattle.rw_types_equations.specs.Seen.{seen_option, seen_world};
 use rw_base::OutOfMemory;
 use rw_scope_rules::Binding;
 use rw_types_equations::{Scheme, World, operation_scheme};
+use rw_types_numbering::{constructed_at, declared_at};
 use rw_types_rules::VariableKind;
 use sqlite_items::Items;
 use std::alloc::Global;
-
-// The function that this declaration declares.
-#[tactic(auto, using(rw_types_equations::proofs::Kept::looked_up))]
-fn declared_at(world: &World, n: u32) -> Option<&Scheme>
-    ensures { seen_option (option_copied result) ≡ get_or (seen_world world.now).declared n None }
-{
-    match world.declared.get(n as usize) {
-        Some(Some(scheme)) => Some(scheme),
-        Some(None) => None,
-        None => None,
-    }
-}
-
-// The constructor with this place of the data type that this declaration declares.
-#[tactic(auto, using(rw_types_equations::proofs::Kept::looked_up))]
-fn constructed_at(world: &World, n: u32, place: u32) -> Option<&Scheme>
-    ensures { seen_option (option_copied result) ≡ slice_get (get_or (seen_world world.now).constructed n []) place }
-{
-    match world.constructed.get(n as usize) {
-        Some(schemes) => schemes.get(place as usize),
-        None => None,
-    }
-}
 
 // The kinds of the variables of a scheme, if there is one.
 fn kinds_of(alloc: Global, scheme: Option<&Scheme>) -> Result<Items<VariableKind>, OutOfMemory>

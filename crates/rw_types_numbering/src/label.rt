@@ -49,9 +49,9 @@ fn take_arguments(
     Ok(count)
 }
 
-// The function that this declaration declares.
+/// The type of the function that this declaration declares, if it has one.
 #[tactic(auto, using(rw_types_equations::proofs::Kept::looked_up))]
-fn declared_at(world: &World, n: u32) -> Option<&Scheme>
+pub fn declared_at(world: &World, n: u32) -> Option<&Scheme>
     ensures { seen_option (option_copied result) ≡ get_or (seen_world world.now).declared n None }
 {
     match world.declared.get(n as usize) {
@@ -61,9 +61,9 @@ fn declared_at(world: &World, n: u32) -> Option<&Scheme>
     }
 }
 
-// The constructor with this place of the data type that this declaration declares.
+/// The type of the constructor with this place of the data type that this declaration declares, if there is one.
 #[tactic(auto, using(rw_types_equations::proofs::Kept::looked_up))]
-fn constructed_at(world: &World, n: u32, place: u32) -> Option<&Scheme>
+pub fn constructed_at(world: &World, n: u32, place: u32) -> Option<&Scheme>
     ensures { seen_option (option_copied result) ≡ slice_get (get_or (seen_world world.now).constructed n []) place }
 {
     match world.constructed.get(n as usize) {

@@ -18,4 +18,5 @@ mod pattern;
 mod statement;
 
 pub use declaration::number_declaration;
+pub use label::{constructed_at, declared_at};
 pub use laws::{assignment_law, erased_law, instance_law, seen_law, typing_law};

@@ -4,9 +4,9 @@ use crate::source::program_of;
 use rw_base::Place;
 use rw_scope_binding::bind;
 use rw_scope_names::{
-    declared_twice, earliest, repeated_at_top, repeated_in_functions, unbound, unknown_modules,
-    unpaired,
+    declared_twice, repeated_at_top, repeated_in_functions, unbound, unknown_modules, unpaired,
 };
+use rw_scope_rules::earliest;
 use std::test::Fail;
 
 /// Whether these places are on these lines.

@@ -19,6 +19,7 @@ mod text;
 
 use rw_base::OutOfMemory;
 use std::alloc::Global;
+pub use text::letter_of;
 use vh_tree::Design;
 use vh_tree_spelling::spellable_designs_are_spelled;
 

@@ -60,7 +60,7 @@ pub fn push_number(text: &mut Vec<u8>, number: u32) -> Result<(), OutOfMemory>
 }
 
 /// The letter of a value of a wire.
-fn letter_of(bit: Bit9) -> u8
+pub fn letter_of(bit: Bit9) -> u8
     ensures { result ≡ letter bit }
 {
     match bit {
