@@ -4,7 +4,7 @@ use Rattle.std.specs.Prelude.{◌&&◌, ◌||◌}
 use Rattle.std.specs.List.{list_all}
 use Rattle.vh_tree.specs.Bits.{Bytes, is_among, same_name}
 use Rattle.vh_tree.specs.StaticRules.{are_distinct}
-use Rattle.vh_tree_static.proofs.Same.{swapped}
+use Rattle.rw_base_tables.proofs.Same.{swapped}
 
 or_along : (a b c : Bool) → (a || (b || c)) ≡ ((a || b) || c)
 or_along true b c = refl

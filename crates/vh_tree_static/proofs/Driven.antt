@@ -11,12 +11,12 @@ use Rattle.vh_tree.specs.declared.stmt.VStmt.{VStmt}
 use Rattle.vh_tree.specs.declared.stmt.VStmt.TheVariants.{If}
 use Rattle.vh_tree.specs.declared.process.Process.{Process}
 use Rattle.vh_tree.specs.declared.design.Design.{Design}
-use Rattle.vh_tree_static.specs.Tables.{Known, put}
+use Rattle.rw_base_tables.specs.Tables.{Known, put}
 use Rattle.vh_tree_static.specs.Drivers.{and_process, and_processes, driver_in, is_one}
 use Rattle.vh_tree_static.specs.declared.drivers.Driver.{Driver}
 use Rattle.vh_tree_static.specs.declared.drivers.Driver.TheVariants.{One, Several}
 use Rattle.vh_tree_static.proofs.Here.{cons_at}
-use Rattle.vh_tree_static.proofs.Same.{one_name, swapped}
+use Rattle.rw_base_tables.proofs.Same.{one_name, swapped}
 use Rattle.vh_tree_static.proofs.Statements.{ways, branch_ways}
 
 itself : (n : ℕ) → (n == n) ≡ true

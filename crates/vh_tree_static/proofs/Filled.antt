@@ -6,7 +6,7 @@ use Rattle.vh_tree.specs.declared.function.Var.{Var}
 use Rattle.vh_tree.specs.declared.design.Item.{Item}
 use Rattle.vh_tree.specs.declared.design.Item.TheVariants.{Signal, Function as Declared}
 use Rattle.vh_tree_static.specs.Rules.{and_arity}
-use Rattle.vh_tree_static.specs.Tables.{Known, put}
+use Rattle.rw_base_tables.specs.Tables.{Known, put}
 use Rattle.vh_tree_static.proofs.Here.{cons_at}
 
 -- a variable more

@@ -3,7 +3,7 @@ use Rattle.std.proofs.Common.{◌≡◌, ℕ, zero, suc, ◌+◌, ◌<◌, Bool,
 use Rattle.vh_tree.specs.Bits.{Bytes, is_among, same_name}
 use Rattle.vh_tree.specs.StaticRules.{are_distinct}
 use Rattle.vh_tree_static.proofs.Here.{cons_at}
-use Rattle.vh_tree_static.proofs.Same.{swapped}
+use Rattle.rw_base_tables.proofs.Same.{swapped}
 
 pub right : (a b : Bool) → (a && b) ≡ true → b ≡ true
 right true b h = h

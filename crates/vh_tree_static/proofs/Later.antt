@@ -7,10 +7,10 @@ use Rattle.vh_tree.specs.declared.function.Function.{Function}
 use Rattle.vh_tree.specs.declared.design.Item.{Item}
 use Rattle.vh_tree.specs.declared.design.Item.TheVariants.{Signal, Function as Declared}
 use Rattle.vh_tree_static.specs.Rules.{before_item, item_uses_earlier}
-use Rattle.vh_tree_static.specs.Tables.{Known}
+use Rattle.rw_base_tables.specs.Tables.{Known}
 use Rattle.vh_tree_static.proofs.FromTheLast.{against, one_more, right}
 use Rattle.vh_tree_static.proofs.Here.{cons_at}
-use Rattle.vh_tree_static.proofs.Same.{swapped}
+use Rattle.rw_base_tables.proofs.Same.{swapped}
 
 abbrev pub names : List Item → List Bytes
 names items = map (λ (g : Function). g.name) (functions_of items)

@@ -1,12 +1,11 @@
+-- Lemmas on what tables hold of a design, rule by rule.
 pub mod Behind
 pub mod Driven
-pub mod Entries
 pub mod Filled
 pub mod FromTheLast
 pub mod Here
 pub mod Later
 pub mod Parts
-pub mod Same
 pub mod Statements
 pub mod Widened
 pub mod Wired

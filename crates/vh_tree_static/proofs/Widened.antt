@@ -7,7 +7,7 @@ use Rattle.vh_tree.specs.declared.function.Var.{Var}
 use Rattle.vh_tree.specs.declared.design.Design.{Design}
 use Rattle.std.proofs.lemmas.List.{take_min, take-map}
 use Rattle.vh_tree.specs.declared.function.Function.{Function}
-use Rattle.vh_tree_static.specs.Tables.{Known, known_in, put}
+use Rattle.rw_base_tables.specs.Tables.{Known, known_in, put}
 use Rattle.vh_tree_static.specs.declared.widths.Callee.{Callee}
 use Rattle.vh_tree_static.specs.Measures.{capped, known_by, shape_at, widths_over}
 

@@ -9,11 +9,11 @@ use Rattle.vh_tree.specs.declared.function.Function.{Function}
 use Rattle.vh_tree.specs.declared.design.Item.{Item}
 use Rattle.vh_tree.specs.declared.design.Design.{Design}
 use Rattle.vh_tree_static.specs.declared.names.Wires.{Wires}
-use Rattle.vh_tree_static.specs.Tables.{Known}
+use Rattle.rw_base_tables.specs.Tables.{Known}
 use Rattle.vh_tree_static.specs.Named.{IsWires, are_apart, body_well, function_well, own_names, process_well, stmt_well}
 use Rattle.vh_tree_static.proofs.Behind.{distinct_behind}
 use Rattle.vh_tree_static.proofs.FromTheLast.{one_more}
-use Rattle.vh_tree_static.proofs.Same.{swapped}
+use Rattle.rw_base_tables.proofs.Same.{swapped}
 
 -- what has a width is one of the variables
 has_width : (vars : List Var) (x : Bytes) → is_some (width_among vars x) ≡ is_among x (names_of vars)

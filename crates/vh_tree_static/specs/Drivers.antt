@@ -3,7 +3,7 @@ use Rattle.std.specs.Prelude.{◌≡◌, ℕ, ◌+◌, ◌==◌, Bool, true, fal
 use Rattle.vh_tree.specs.Bits.{Bytes}
 use Rattle.vh_tree.specs.StaticRules.{drives}
 use Rattle.vh_tree.specs.declared.process.Process.{Process}
-use Rattle.vh_tree_static.specs.Tables.{Known}
+use Rattle.rw_base_tables.specs.Tables.{Known}
 use Rattle.vh_tree_static.specs.declared.drivers.Driver.{Driver}
 use Rattle.vh_tree_static.specs.declared.drivers.Driver.TheVariants.{One, Several}
 

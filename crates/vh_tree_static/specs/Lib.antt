@@ -3,4 +3,3 @@ pub mod Drivers
 pub mod Measures
 pub mod Named
 pub mod Rules
-pub mod Tables

@@ -10,7 +10,7 @@ use Rattle.vh_tree.specs.declared.function.Function.{Function}
 use Rattle.vh_tree.specs.declared.design.Item.{Item}
 use Rattle.vh_tree.specs.declared.expr.VExpr.{VExpr}
 use Rattle.vh_tree.specs.declared.stmt.Test.{Test}
-use Rattle.vh_tree_static.specs.Tables.{Known, known_in}
+use Rattle.rw_base_tables.specs.Tables.{Known, known_in}
 use Rattle.vh_tree_static.specs.declared.widths.Callee.{Callee}
 use Rattle.vh_tree_static.specs.declared.widths.Misfit.{Misfit}
 

@@ -8,7 +8,7 @@ use Rattle.vh_tree.specs.declared.function.Function.{Function}
 use Rattle.vh_tree.specs.declared.process.Process.{Process}
 use Rattle.vh_tree.specs.declared.design.Design.{Design}
 use Rattle.vh_tree_static.specs.Rules.{assigns_well, names_over, tests_well}
-use Rattle.vh_tree_static.specs.Tables.{Known, known_in}
+use Rattle.rw_base_tables.specs.Tables.{Known, known_in}
 use Rattle.vh_tree_static.specs.declared.names.Wires.{Wires}
 
 -- a table has exactly these names, which are distinct, where there is one

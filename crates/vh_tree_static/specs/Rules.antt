@@ -7,7 +7,7 @@ use Rattle.vh_tree.specs.declared.expr.VExpr.{VExpr}
 use Rattle.vh_tree.specs.declared.stmt.Test.{Test}
 use Rattle.vh_tree.specs.declared.design.Item.{Item}
 use Rattle.vh_tree.specs.declared.design.Item.TheVariants.{Signal, Function as Declared}
-use Rattle.vh_tree_static.specs.Tables.{Known, put}
+use Rattle.rw_base_tables.specs.Tables.{Known, put}
 
 -- what may be named where these are the variables, and these the numbers of parameters
 abbrev pub names_over : Known ℕ → Known ℕ → Names

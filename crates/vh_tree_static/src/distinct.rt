@@ -3,8 +3,9 @@ ghost use Rattle.std.specs.Prelude.{◌≡◌, ◌++◌, IfOk, OnOk, map};
 ghost use Rattle.vh_tree.specs.StaticRules.{are_distinct, item_names, names_of};
 ghost use Rattle.vh_tree_static.specs.Named.{IsSet};
 
-use crate::table::Table;
+use crate::table::has;
 use rw_base::OutOfMemory;
+use rw_base_tables::Table;
 use std::alloc::Global;
 use vh_tree::{Ident, Item, Var};
 
@@ -17,7 +18,7 @@ pub fn as_set(alloc: Global, names: &[Ident]) -> Result<Option<Table<()>>, OutOf
     while at > 0 {
         at -= 1;
         let name = &names[at];
-        if seen.has(name) {
+        if has(&seen, name) {
             return Ok(None);
         }
         seen.put(alloc, name.as_slice(), ())?;

@@ -7,10 +7,11 @@ ghost use Rattle.vh_tree.specs.Bits.{Bytes, same_name};
 ghost use Rattle.vh_tree.specs.StaticRules.{assigns as assigns_to, breaks_drivers, signal_names};
 ghost use Rattle.vh_tree_static.specs.Drivers.{Assigns, and_process, driver_in, is_one};
 ghost use Rattle.vh_tree_static.specs.Rules.{branch_assigns as branch_assigns_to};
-ghost use Rattle.vh_tree_static.specs.Tables.{known_in};
+ghost use Rattle.rw_base_tables.specs.Tables.{known_in};
 
-use crate::table::Table;
+use crate::table::get;
 use rw_base::OutOfMemory;
+use rw_base_tables::Table;
 use std::alloc::Global;
 use vh_tree::{Branch, Design, Ident, Item, Process, VStmt};
 
@@ -49,7 +50,7 @@ fn note(
 ) -> Result<(), OutOfMemory>
     ensures { OnOk result (Assigns place (λ x. same_name x target.now) (known_in drivers.old) (known_in drivers.new)) }
 {
-    if let Some(driver) = news(drivers.get(target).copied(), place) {
+    if let Some(driver) = news(get(drivers, target).copied(), place) {
         drivers.put(alloc, target.as_slice(), driver)?;
     }
     Ok(())
@@ -131,7 +132,7 @@ fn drivers_of(alloc: Global, processes: &[Process]) -> Result<Table<Driver>, Out
 fn has_one_driver(drivers: &Table<Driver>, name: &Ident) -> bool
     ensures { result ≡ is_one (known_in drivers.now name.now) }
 {
-    matches!(drivers.get(name).copied(), Some(Driver::One(_)))
+    matches!(get(drivers, name).copied(), Some(Driver::One(_)))
 }
 
 // Whether one process assigns to each signal of these items.

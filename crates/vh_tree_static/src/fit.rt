@@ -5,13 +5,14 @@ ghost use Rattle.vh_tree.specs.Functions.{parameter_widths};
 ghost use Rattle.vh_tree.specs.StaticRules.{agree as agree_with, breaks_widths, declared_signals, function_fits, is_width as is_declared, items_fit, measured, parameter_vars, process_vars, shape_of, shapes_of, stmt_fits, fits_in, names_of, widths_in_process};
 ghost use Rattle.vh_tree_static.specs.Rules.{branch_keeps};
 ghost use Rattle.vh_tree_static.specs.Measures.{CalleeOf, CalleeOver, CalleesOf, ItemsFit, assigns_fit, body_keeps, function_vars, known_by, tests_fit, widths_over};
-ghost use Rattle.vh_tree_static.specs.Tables.{known_in};
+ghost use Rattle.rw_base_tables.specs.Tables.{known_in};
 
 use crate::lookup::width_table;
-use crate::table::Table;
+use crate::table::get;
 use crate::vars::{add_signals, again, port};
 use crate::widths::{Callee, agree, measure};
 use rw_base::{OutOfMemory, VFail};
+use rw_base_tables::Table;
 use sqlite_items::Items;
 use std::alloc::Global;
 use vh_tree::{Branch, Design, Function, Ident, Item, Process, Test, VExpr, VStmt, Var};
@@ -54,7 +55,7 @@ fn assignment_fits(
 ) -> bool
     ensures { result ≡ assigns_fit (known_in vars.now) callees.now target.now value.now }
 {
-    match vars.get(target) {
+    match get(vars, target) {
         Some(width) => expr_fits(vars, callees, Some(*width as u64), value),
         None => expr_fits(vars, callees, None, value),
     }

@@ -3,10 +3,10 @@ ghost use Rattle.std.specs.Prelude.{◌≡◌, IfOk, OnOk};
 ghost use Rattle.vh_tree.specs.Bits.{Bytes, same_name};
 ghost use Rattle.vh_tree.specs.StaticRules.{arity_in, functions_of, width_among};
 ghost use Rattle.vh_tree_static.specs.Rules.{and_arity};
-ghost use Rattle.vh_tree_static.specs.Tables.{known_in};
+ghost use Rattle.rw_base_tables.specs.Tables.{known_in};
 
-use crate::table::Table;
 use rw_base::OutOfMemory;
+use rw_base_tables::Table;
 use std::alloc::Global;
 use vh_tree::{Ident, Item, Var};
 

@@ -5,13 +5,14 @@ ghost use Rattle.vh_tree.specs.StaticRules.{all_true, arity_in, breaks_names, de
 ghost use Rattle.vh_tree.specs.StaticRules as rules;
 ghost use Rattle.vh_tree_static.specs.Rules.{assigns_well, branch_keeps, names_over, tests_well};
 ghost use Rattle.vh_tree_static.specs.Named.{IsSet, IsWires, are_apart, body_well, function_well, own_names, process_well, stmt_well};
-ghost use Rattle.vh_tree_static.specs.Tables.{known_in};
+ghost use Rattle.rw_base_tables.specs.Tables.{known_in};
 
 use crate::distinct::{add_items, add_names, add_vars, as_set, distinct};
 use crate::lookup::{arity_table, same, width_table};
-use crate::table::Table;
+use crate::table::{get, has};
 use crate::vars::{add_signals, port};
 use rw_base::OutOfMemory;
+use rw_base_tables::Table;
 use std::alloc::Global;
 use vh_tree::{Branch, Design, Function, Ident, Item, Process, Test, VExpr, VStmt, Var};
 
@@ -19,7 +20,7 @@ use vh_tree::{Branch, Design, Function, Ident, Item, Process, Test, VExpr, VStmt
 fn takes(arities: &Table<usize>, name: &Ident, count: usize) -> bool
     ensures { result ≡ has_arity (known_in arities.now name.now) count }
 {
-    match arities.get(name) {
+    match get(arities, name) {
         Some(most) => *most == count,
         None => false,
     }
@@ -31,8 +32,8 @@ fn expr_is_named(arities: &Table<usize>, vars: &Table<u32>, expr: &VExpr) -> boo
     ensures { result ≡ names_well (names_over (known_in arities.now) (known_in vars.now)) expr.now }
 {
     match expr {
-        VExpr::Name(name) => vars.has(name) || takes(arities, name, 0),
-        VExpr::Slice(name, _, _) => vars.has(name),
+        VExpr::Name(name) => has(vars, name) || takes(arities, name, 0),
+        VExpr::Slice(name, _, _) => has(vars, name),
         VExpr::Literal(_) => true,
         VExpr::Call(name, arguments) => {
             let arguments = arguments.as_slice();
@@ -93,7 +94,7 @@ fn stmt_is_named(
 {
     match stmt {
         VStmt::Assign(target, value) => {
-            assigned.has(target) && expr_is_named(arities, vars, value)
+            has(assigned, target) && expr_is_named(arities, vars, value)
         }
         VStmt::If(branches, other) => {
             branches_are_named(arities, vars, assigned, in_process, branches.as_slice())
@@ -220,7 +221,7 @@ fn none_is_declared(declared: &Table<()>, names: &[Ident]) -> bool
     ensures { result ≡ list_all (λ x. not (is_some (known_in declared.now x))) names.now }
 {
     for name in names {
-        if declared.has(name) {
+        if has(declared, name) {
             return false;
         }
     }
@@ -313,7 +314,7 @@ fn all_heard(heard: &Table<u32>, names: &[Ident]) -> bool
     ensures { result ≡ list_all (λ x. is_some (known_in heard.now x)) names.now }
 {
     for name in names {
-        if !heard.has(name) {
+        if !has(heard, name) {
             return false;
         }
     }

@@ -4,10 +4,11 @@ ghost use Rattle.std.specs.List.{list_all};
 ghost use Rattle.vh_tree.specs.Bits.{Bytes};
 ghost use Rattle.vh_tree.specs.StaticRules.{all_true, all_use_earlier, breaks_order, function_uses_earlier, functions_of, stmt_uses_earlier, uses_earlier};
 ghost use Rattle.vh_tree_static.specs.Rules.{before_item, branch_keeps, item_uses_earlier, tests_early, usable_before};
-ghost use Rattle.vh_tree_static.specs.Tables.{known_in};
+ghost use Rattle.rw_base_tables.specs.Tables.{known_in};
 
-use crate::table::Table;
+use crate::table::has;
 use rw_base::OutOfMemory;
+use rw_base_tables::Table;
 use std::alloc::Global;
 use vh_tree::{Branch, Design, Function, Item, Test, VExpr, VStmt};
 
@@ -17,11 +18,11 @@ fn expr_is_early(later: &Table<()>, expr: &VExpr) -> bool
     ensures { result ≡ uses_earlier (usable_before (known_in later.now)) expr.now }
 {
     match expr {
-        VExpr::Name(name) => !later.has(name),
+        VExpr::Name(name) => !has(later, name),
         VExpr::Slice(_, _, _) => true,
         VExpr::Literal(_) => true,
         VExpr::Call(name, arguments) => {
-            !later.has(name) && all_are_early(later, arguments.as_slice())
+            !has(later, name) && all_are_early(later, arguments.as_slice())
         }
         VExpr::Join(parts) => all_are_early(later, parts.as_slice()),
     }

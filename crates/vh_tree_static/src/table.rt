@@ -1,58 +1,20 @@
-// A table from names to what is known of them. Contracts see it as a function.
-ghost use Rattle.std.specs.Prelude.{◌≡◌, IfOk, OnOk, None, is_some, option_copied};
-ghost use Rattle.vh_tree.specs.Bits.{Bytes};
-ghost use Rattle.vh_tree_static.specs.Tables.{known_in, put};
+// What a table has of a name of a design.
+ghost use Rattle.std.specs.Prelude.{◌≡◌, is_some, option_copied};
+ghost use Rattle.rw_base_tables.specs.Tables.{known_in};
 
-use indexmap::IndexMap;
-use rw_base::OutOfMemory;
-use std::alloc::Global;
-use std::marker::Model;
+use rw_base_tables::Table;
 use vh_tree::Ident;
 
-// What each name has, if it has anything.
-#[derive(Drop)]
-pub struct Table<V: Drop> {
-    index: IndexMap<Vec<u8>, V>,
+// What the name has.
+pub fn get<'a, V: Drop>(table: &'a Table<V>, name: &Ident) -> Option<&'a V>
+    ensures { option_copied result ≡ known_in table.now name.now }
+{
+    table.get(name.as_slice())
 }
 
-impl<V: Drop> Model for Table<V> {
-    ghost use Rattle.std.specs.Prelude.{List, map};
-    ghost use Rattle.vh_tree.specs.Bits.{Bytes};
-
-    ghost Value = { List (Bytes × V) };
-
-    ghost view = { λ t. map (λ e. (e.0.items, e.1)) t.index.entries };
-}
-
-impl<V: Drop> Table<V> {
-    // Nothing is known.
-    pub fn new(alloc: Global) -> Table<V>
-        ensures { (x : Bytes) → known_in result x ≡ None }
-    {
-        Table {
-            index: IndexMap::new(alloc),
-        }
-    }
-
-    // What the name has.
-    pub fn get(&self, name: &Ident) -> Option<&V>
-        ensures { option_copied result ≡ known_in self.now name.now }
-    {
-        self.index.get(name.as_slice())
-    }
-
-    // Whether the name has anything.
-    pub fn has(&self, name: &Ident) -> bool
-        ensures { result ≡ is_some (known_in self.now name.now) }
-    {
-        self.index.contains_key(name.as_slice())
-    }
-
-    // Gives the name this, whatever it had.
-    pub fn put(&mut self, alloc: Global, name: &[u8], value: V) -> Result<(), OutOfMemory>
-        ensures { OnOk result ((x : Bytes) → known_in self.new x ≡ put name.now value (known_in self.old) x) }
-    {
-        self.index.insert(Vec::from_slice(alloc, name)?, value)?;
-        Ok(())
-    }
+// Whether the name has anything.
+pub fn has<V: Drop>(table: &Table<V>, name: &Ident) -> bool
+    ensures { result ≡ is_some (known_in table.now name.now) }
+{
+    table.has(name.as_slice())
 }

@@ -4,9 +4,10 @@ ghost use Rattle.std.specs.List.{list_all};
 ghost use Rattle.vh_tree.specs.StaticRules.{Width, all_agree, joined_width, measured, sum_widths, width_of_name};
 ghost use Rattle.vh_tree.specs.StaticRules as rules;
 ghost use Rattle.vh_tree_static.specs.Measures.{Fits, Measures, capped, widths_over};
-ghost use Rattle.vh_tree_static.specs.Tables.{known_in};
+ghost use Rattle.rw_base_tables.specs.Tables.{known_in};
 
-use crate::table::Table;
+use crate::table::get;
+use rw_base_tables::Table;
 use sqlite_items::Items;
 use vh_tree::{Ident, VExpr};
 
@@ -29,10 +30,10 @@ pub enum Misfit {
 fn name_width(vars: &Table<u32>, callees: &Table<Callee>, name: &Ident) -> Option<u64>
     ensures { let ws = widths_over (known_in vars.now) callees.now in result ≡ width_of_name (ws.named name.now) (ws.known name.now) }
 {
-    if let Some(width) = vars.get(name) {
+    if let Some(width) = get(vars, name) {
         return Some(*width as u64);
     }
-    callees.get(name)?.result
+    get(callees, name)?.result
 }
 
 // The width of a part of a name of this width.
@@ -105,9 +106,9 @@ pub fn measure(
 {
     match expr {
         VExpr::Name(name) => Ok(name_width(vars, callees, name)),
-        VExpr::Slice(name, high, low) => slice_width(vars.get(name).copied(), *high, *low),
+        VExpr::Slice(name, high, low) => slice_width(get(vars, name).copied(), *high, *low),
         VExpr::Literal(bits) => Ok(Some(bits.as_slice().len() as u64)),
-        VExpr::Call(name, arguments) => match callees.get(name) {
+        VExpr::Call(name, arguments) => match get(callees, name) {
             Some(callee) => {
                 let params = callee.params.as_slice();
                 arguments_fit(vars, callees, params, arguments.as_slice())?;

@@ -11,7 +11,7 @@ use Rattle.vhdl_cycle_flat.specs.Names.{Frames, with_frame}
 use Rattle.vhdl_cycle_flat.specs.Resolving.{IsFrameOf}
 use Rattle.vhdl_cycle_resolve.specs.Framed.{IsFramed}
 use Rattle.vhdl_cycle_resolve.specs.Over.{frame_of, frames_in}
-use Rattle.vhdl_cycle_resolve.specs.Tables.{known_in, put}
+use Rattle.rw_base_tables.specs.Tables.{known_in, put}
 use Rattle.vhdl_cycle_resolve.specs.declared.function.Functions.{Functions}
 use Rattle.vhdl_cycle_resolve.specs.declared.sized.Known.{Known}
 

@@ -8,9 +8,9 @@ use Rattle.vhdl_cycle_flat.specs.Names.{slot_among, total_width}
 use Rattle.vhdl_cycle_flat.specs.declared.slot.Slot.{Slot}
 use Rattle.vhdl_cycle_resolve.specs.Laid.{or_later, IsLaid, AreSlotsOf}
 use Rattle.vhdl_cycle_resolve.specs.Over.{slots_in}
-use Rattle.vhdl_cycle_resolve.specs.Tables.{put}
+use Rattle.rw_base_tables.specs.Tables.{put}
 use Rattle.vhdl_cycle_resolve.specs.declared.layout.Layout.{Layout}
-use Rattle.vhdl_cycle_resolve.proofs.Same.{one_name}
+use Rattle.rw_base_tables.proofs.Same.{one_name}
 
 or_later_assoc : (a b c : Option Slot) → or_later (or_later a b) c ≡ or_later a (or_later b c)
 or_later_assoc None b c = refl

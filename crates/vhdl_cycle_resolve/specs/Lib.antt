@@ -2,4 +2,3 @@
 pub mod Framed
 pub mod Laid
 pub mod Over
-pub mod Tables

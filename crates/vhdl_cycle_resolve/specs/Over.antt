@@ -10,7 +10,7 @@ use Rattle.vhdl_cycle_flat.specs.Names.{Slots, Frames}
 use Rattle.vhdl_cycle_flat.specs.declared.resolved.Bit.{Bit}
 use Rattle.vhdl_cycle_flat.specs.declared.resolved.Branch.{Branch}
 use Rattle.vhdl_cycle_flat.specs.declared.slot.Slot.{Slot}
-use Rattle.vhdl_cycle_resolve.specs.Tables.{known_in}
+use Rattle.rw_base_tables.specs.Tables.{known_in}
 use Rattle.vhdl_cycle_resolve.specs.declared.sized.Known.{Known}
 
 -- the places that a table gives to names

@@ -13,8 +13,9 @@ ghost use Rattle.vhdl_cycle_resolve.specs.Over.{slots_in, frames_in, RowsAgree};
 use crate::expr::resolve_expr;
 use crate::room::with_room;
 use crate::sized::Known;
-use crate::table::Table;
+use crate::table::get;
 use rw_base::OutOfMemory;
+use rw_base_tables::Table;
 use sqlite_items::Items;
 use std::alloc::Global;
 use vh_tree::VStmt;
@@ -114,7 +115,7 @@ fn resolve_drive(
     ensures raised { room.old ≤ room.new }
 {
     match stmt {
-        VStmt::Assign(name, e) => match slots.get(name) {
+        VStmt::Assign(name, e) => match get(slots, name) {
             Some(slot) => {
                 let value = resolve_expr(alloc, e, slots, funs)?;
                 *room = value.room.max(*room);

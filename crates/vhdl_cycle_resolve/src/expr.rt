@@ -8,8 +8,9 @@ ghost use Rattle.vhdl_cycle_flat.specs.Names.{value_over, called_over, scope_ove
 ghost use Rattle.vhdl_cycle_resolve.specs.Over.{slots_in, frames_in};
 
 use crate::sized::{Known, Parts, Sized, call, cut, literal, part, slice};
-use crate::table::Table;
+use crate::table::get;
 use rw_base::OutOfMemory;
+use rw_base_tables::Table;
 use std::alloc::Global;
 use vh_tree::{Ident, VExpr};
 use vhdl_cycle_flat::Slot;
@@ -22,7 +23,7 @@ fn resolve_name(
 ) -> Result<Sized, OutOfMemory>
     ensures { IfOk result (λ r. (n : ℕ) (frame : Bits) → (expr_of r.expr).value n frame ≡ value_over (slots_in slots.now name.now) (frames_in funs.now name.now) n frame) }
 {
-    match slots.get(name) {
+    match get(slots, name) {
         Some(slot) => Ok(part(*slot)),
         None => resolve_call(alloc, name, Parts::new(alloc), funs),
     }
@@ -39,7 +40,7 @@ fn resolve_slice(
 ) -> Result<Sized, OutOfMemory>
     ensures { IfOk result (λ r. (n : ℕ) (frame : Bits) → (expr_of r.expr).value n frame ≡ slice_of high low (value_over (slots_in slots.now name.now) (frames_in funs.now name.now) n frame)) }
 {
-    match slots.get(name) {
+    match get(slots, name) {
         Some(slot) => Ok(slice(*slot, high, low)),
         None => {
             let whole = resolve_name(alloc, name, slots, funs)?;
@@ -56,7 +57,7 @@ fn resolve_call(
 ) -> Result<Sized, OutOfMemory>
     ensures { IfOk result (λ r. (n : ℕ) (frame : Bits) → (expr_of r.expr).value n frame ≡ called_over (frames_in funs.now name.now) n (joined (map expr_of args.exprs) n frame)) }
 {
-    match funs.get(name) {
+    match get(funs, name) {
         Some(known) => call(known, args),
         None => literal(alloc, &[]),
     }

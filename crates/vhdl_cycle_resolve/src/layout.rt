@@ -5,8 +5,8 @@ ghost use Rattle.vhdl_cycle_flat.specs.Resolving.{frame_vars};
 ghost use Rattle.vhdl_cycle_resolve.specs.Laid.{IsLaid, AreSlotsOf};
 
 use crate::sized::sum;
-use crate::table::Table;
 use rw_base::OutOfMemory;
+use rw_base_tables::Table;
 use std::alloc::Global;
 use vh_tree::{Design, Function, Ident, Item, Var};
 use vhdl_cycle_flat::Slot;

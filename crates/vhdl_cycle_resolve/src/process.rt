@@ -7,8 +7,9 @@ ghost use Rattle.vhdl_cycle_resolve.specs.Over.{slots_in, frames_in};
 
 use crate::drive::resolve_drives;
 use crate::sized::Known;
-use crate::table::Table;
+use crate::table::get;
 use rw_base::OutOfMemory;
+use rw_base_tables::Table;
 use sqlite_items::Items;
 use std::alloc::Global;
 use vh_tree::Ident;
@@ -24,7 +25,7 @@ fn resolve_places(
 {
     let mut out = Items::new(alloc);
     for name in names {
-        if let Some(slot) = slots.get(name) {
+        if let Some(slot) = get(slots, name) {
             out.push(Place {
                 from: slot.from,
                 len: slot.len,

@@ -13,8 +13,9 @@ use crate::choice::choice;
 use crate::expr::resolve_expr;
 use crate::room::with_room;
 use crate::sized::Known;
-use crate::table::Table;
+use crate::table::get;
 use rw_base::{Bit9, OutOfMemory};
+use rw_base_tables::Table;
 use sqlite_items::Items;
 use std::alloc::Global;
 use vh_tree::VStmt;
@@ -118,7 +119,7 @@ fn resolve_stmt(
     ensures raised { room.old ≤ room.new }
 {
     match stmt {
-        VStmt::Assign(name, e) => match slots.get(name) {
+        VStmt::Assign(name, e) => match get(slots, name) {
             Some(slot) => {
                 let value = resolve_expr(alloc, e, slots, funs)?;
                 *room = value.room.max(*room);

@@ -1,7 +1,7 @@
 -- A name that was seen stands again behind itself.
 use Rattle.std.proofs.Common.{◌≡◌, ◌+◌, ◌-◌, ◌<◌, true, drop, length, is_some, sym, ap, ◌∙◌, arith}
 use Rattle.vh_tree.specs.Bits.{is_among}
-use Rattle.vh_tree_static.specs.Tables.{known_in}
+use Rattle.rw_base_tables.specs.Tables.{known_in}
 use Rattle.vh_tree_static.proofs.FromTheLast.{stops, goes_on, sees}
 use Rattle.vh_tree_static.proofs.distinct.as_set.Goals as goal
 

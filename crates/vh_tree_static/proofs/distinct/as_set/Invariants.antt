@@ -2,7 +2,7 @@
 use Rattle.std.proofs.Common.{◌≡◌, ◌≤◌, true, drop, length, is_some}
 use Rattle.vh_tree.specs.Bits.{Bytes, is_among}
 use Rattle.vh_tree.specs.StaticRules.{are_distinct}
-use Rattle.vh_tree_static.specs.Tables.{known_in}
+use Rattle.rw_base_tables.specs.Tables.{known_in}
 use Rattle.vh_tree_static.proofs.distinct.as_set.Given as goal
 
 abbrev pub invariant-loop-at : goal.invariant-loop-at

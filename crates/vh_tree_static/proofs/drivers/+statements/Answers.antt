@@ -3,7 +3,7 @@ use Rattle.std.proofs.Common.{Bool, OnOk, subst}
 use Rattle.std.proofs.lemmas.Result.{on_ok_weaker}
 use Rattle.vh_tree.specs.Bits.{Bytes}
 use Rattle.vh_tree_static.specs.Drivers.{Assigns}
-use Rattle.vh_tree_static.specs.Tables.{known_in}
+use Rattle.rw_base_tables.specs.Tables.{known_in}
 use Rattle.vh_tree_static.proofs.Driven.{in_branch, in_choice}
 use Rattle.vh_tree_static.proofs.drivers.+statements.Goals as goal
 

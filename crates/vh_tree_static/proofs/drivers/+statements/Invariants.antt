@@ -5,7 +5,7 @@ use Rattle.vh_tree.specs.Bits.{Bytes}
 use Rattle.vh_tree.specs.StaticRules.{assigns}
 use Rattle.vh_tree_static.specs.Drivers.{and_process}
 use Rattle.vh_tree_static.specs.Rules.{branch_assigns}
-use Rattle.vh_tree_static.specs.Tables.{known_in}
+use Rattle.rw_base_tables.specs.Tables.{known_in}
 use Rattle.vh_tree_static.proofs.drivers.+statements.Given as goal
 
 abbrev pub invariant-note_stmts-loop-stmt : goal.invariant-note_stmts-loop-stmt

@@ -6,7 +6,7 @@ use Rattle.vh_tree.specs.Bits.{Bytes}
 use Rattle.vh_tree.specs.StaticRules.{signal_names}
 use Rattle.vh_tree.specs.declared.design.Item.{Item}
 use Rattle.vh_tree_static.specs.Drivers.{is_one}
-use Rattle.vh_tree_static.specs.Tables.{known_in}
+use Rattle.rw_base_tables.specs.Tables.{known_in}
 use Rattle.vh_tree_static.proofs.Driven.{judged}
 use Rattle.vh_tree_static.proofs.drivers.drivers_keep.Goals as goal
 use Rattle.vh_tree_static.proofs.drivers.drivers_keep.Goals.{then-has_one_driver, else-has_one_driver}

@@ -2,7 +2,7 @@
 use Rattle.std.proofs.Common.{◌≡◌, drop}
 use Rattle.vh_tree.specs.Bits.{Bytes}
 use Rattle.vh_tree_static.specs.Drivers.{and_processes, driver_in}
-use Rattle.vh_tree_static.specs.Tables.{known_in}
+use Rattle.rw_base_tables.specs.Tables.{known_in}
 use Rattle.vh_tree_static.proofs.drivers.drivers_of.Given as goal
 
 abbrev pub invariant-loop-place : goal.invariant-loop-place

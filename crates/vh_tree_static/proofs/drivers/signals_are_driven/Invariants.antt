@@ -4,7 +4,7 @@ use Rattle.std.specs.List.{list_all}
 use Rattle.vh_tree.specs.Bits.{Bytes}
 use Rattle.vh_tree.specs.StaticRules.{signal_names}
 use Rattle.vh_tree_static.specs.Drivers.{is_one}
-use Rattle.vh_tree_static.specs.Tables.{known_in}
+use Rattle.rw_base_tables.specs.Tables.{known_in}
 use Rattle.vh_tree_static.proofs.drivers.signals_are_driven.Given as goal
 
 abbrev pub invariant-loop-item : goal.invariant-loop-item

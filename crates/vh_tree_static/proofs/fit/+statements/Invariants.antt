@@ -4,7 +4,7 @@ use Rattle.std.specs.List.{list_all}
 use Rattle.vh_tree.specs.StaticRules.{stmt_fits}
 use Rattle.vh_tree_static.specs.Rules.{branch_keeps}
 use Rattle.vh_tree_static.specs.Measures.{assigns_fit, tests_fit, widths_over}
-use Rattle.vh_tree_static.specs.Tables.{known_in}
+use Rattle.rw_base_tables.specs.Tables.{known_in}
 use Rattle.vh_tree_static.proofs.fit.+statements.Given as goal
 
 abbrev pub invariant-stmts_fit-loop-stmt : goal.invariant-stmts_fit-loop-stmt

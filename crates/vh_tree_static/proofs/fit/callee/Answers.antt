@@ -2,7 +2,7 @@
 use Rattle.std.proofs.Common.{ℕ, IfOk, subst, ap, ◌∙◌}
 use Rattle.vh_tree.specs.StaticRules.{width_among}
 use Rattle.vh_tree_static.specs.Measures.{CalleeOver}
-use Rattle.vh_tree_static.specs.Tables.{Known}
+use Rattle.rw_base_tables.specs.Tables.{Known}
 use Rattle.vh_tree_static.proofs.fit.callee.Goals as goal
 
 pub returns : goal.returns

@@ -4,7 +4,7 @@ use Rattle.std.specs.List.{list_all}
 use Rattle.vh_tree.specs.StaticRules.{stmt_fits}
 use Rattle.vh_tree.specs.declared.process.Process.{Process}
 use Rattle.vh_tree_static.specs.Measures.{widths_over}
-use Rattle.vh_tree_static.specs.Tables.{known_in}
+use Rattle.rw_base_tables.specs.Tables.{known_in}
 use Rattle.vh_tree_static.proofs.fit.processes_fit.Given as goal
 
 abbrev pub invariant-loop-process : goal.invariant-loop-process

@@ -3,7 +3,7 @@ use Rattle.std.proofs.Common.{ap, ◌∙◌}
 use Rattle.std.specs.List.{list_all}
 use Rattle.vh_tree.specs.StaticRules.{Widths, stmt_fits, width_among, widths_in_process}
 use Rattle.vh_tree.specs.declared.process.Process.{Process}
-use Rattle.vh_tree_static.specs.Tables.{known_in}
+use Rattle.rw_base_tables.specs.Tables.{known_in}
 use Rattle.vh_tree_static.proofs.Widened.{around}
 use Rattle.vh_tree_static.proofs.fit.processes_keep.Goals as goal
 

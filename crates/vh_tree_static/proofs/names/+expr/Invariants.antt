@@ -2,7 +2,7 @@
 use Rattle.std.proofs.Common.{◌≡◌, drop, map}
 use Rattle.vh_tree.specs.StaticRules.{all_true, names_well}
 use Rattle.vh_tree_static.specs.Rules.{names_over}
-use Rattle.vh_tree_static.specs.Tables.{known_in}
+use Rattle.rw_base_tables.specs.Tables.{known_in}
 use Rattle.vh_tree_static.proofs.names.+expr.Given as goal
 
 abbrev pub invariant-all_are_named-loop-part : goal.invariant-all_are_named-loop-part

@@ -1,6 +1,6 @@
 -- Of an `if` and of a branch, by their parts.
 use Rattle.vh_tree_static.specs.Rules.{assigns_well, tests_well}
-use Rattle.vh_tree_static.specs.Tables.{known_in}
+use Rattle.rw_base_tables.specs.Tables.{known_in}
 use Rattle.vh_tree_static.proofs.Statements.{other_kept, branch_broken, branch_kept}
 use Rattle.vh_tree_static.proofs.names.+statements.Goals as goal
 

@@ -2,7 +2,7 @@
 use Rattle.std.proofs.Common.{◌≡◌, drop}
 use Rattle.std.specs.List.{list_all}
 use Rattle.vh_tree_static.specs.Rules.{assigns_well, branch_keeps, tests_well}
-use Rattle.vh_tree_static.specs.Tables.{known_in}
+use Rattle.rw_base_tables.specs.Tables.{known_in}
 use Rattle.vh_tree_static.specs.Named.{stmt_well}
 use Rattle.vh_tree_static.proofs.names.+statements.Given as goal
 

@@ -2,7 +2,7 @@
 use Rattle.std.proofs.Common.{◌≡◌, drop, is_some}
 use Rattle.std.specs.List.{list_all}
 use Rattle.vh_tree.specs.Bits.{Bytes}
-use Rattle.vh_tree_static.specs.Tables.{known_in}
+use Rattle.rw_base_tables.specs.Tables.{known_in}
 use Rattle.vh_tree_static.proofs.names.all_heard.Given as goal
 
 abbrev pub invariant-loop-name : goal.invariant-loop-name

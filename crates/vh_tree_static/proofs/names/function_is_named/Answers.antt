@@ -3,7 +3,7 @@ use Rattle.std.proofs.Common.{ℕ, ap, sym, ◌∙◌}
 use Rattle.std.specs.Prelude.{◌&&◌}
 use Rattle.vh_tree.specs.StaticRules.{width_among}
 use Rattle.vh_tree_static.specs.Named.{body_well}
-use Rattle.vh_tree_static.specs.Tables.{Known, known_in}
+use Rattle.rw_base_tables.specs.Tables.{Known, known_in}
 use Rattle.vh_tree_static.proofs.names.function_is_named.Goals as goal
 
 pub returns : goal.returns

@@ -3,7 +3,7 @@ use Rattle.std.proofs.Common.{◌≡◌, drop}
 use Rattle.std.specs.List.{list_all}
 use Rattle.vh_tree.specs.StaticRules.{functions_of}
 use Rattle.vh_tree_static.specs.Named.{function_well}
-use Rattle.vh_tree_static.specs.Tables.{known_in}
+use Rattle.rw_base_tables.specs.Tables.{known_in}
 use Rattle.vh_tree_static.proofs.names.functions_are_named.Given as goal
 
 abbrev pub invariant-loop-item : goal.invariant-loop-item

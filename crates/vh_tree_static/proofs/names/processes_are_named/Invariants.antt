@@ -2,7 +2,7 @@
 use Rattle.std.proofs.Common.{◌≡◌, drop}
 use Rattle.std.specs.List.{list_all}
 use Rattle.vh_tree_static.specs.Named.{process_well}
-use Rattle.vh_tree_static.specs.Tables.{known_in}
+use Rattle.rw_base_tables.specs.Tables.{known_in}
 use Rattle.vh_tree_static.proofs.names.processes_are_named.Given as goal
 
 abbrev pub invariant-loop-process : goal.invariant-loop-process

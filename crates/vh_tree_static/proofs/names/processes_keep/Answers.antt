@@ -3,7 +3,7 @@ use Rattle.std.proofs.Common.{IfOk, Bool, List, subst, ◌≡◌}
 use Rattle.std.specs.List.{list_all}
 use Rattle.vh_tree.specs.declared.process.Process.{Process}
 use Rattle.vh_tree_static.specs.Named.{process_well}
-use Rattle.vh_tree_static.specs.Tables.{known_in}
+use Rattle.rw_base_tables.specs.Tables.{known_in}
 use Rattle.vh_tree_static.proofs.Wired.{wired}
 use Rattle.vh_tree_static.proofs.names.processes_keep.Goals as goal
 

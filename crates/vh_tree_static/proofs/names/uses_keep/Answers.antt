@@ -3,7 +3,7 @@ use Rattle.std.proofs.Common.{◌≡◌, not, sym, ◌∙◌}
 use Rattle.std.specs.List.{list_all}
 use Rattle.std.proofs.lemmas.Result.{IfOk-weaker}
 use Rattle.vh_tree.specs.StaticRules.{breaks_names, process_names_well}
-use Rattle.vh_tree_static.specs.Tables.{known_in}
+use Rattle.rw_base_tables.specs.Tables.{known_in}
 use Rattle.vh_tree_static.proofs.Wired.{names_broken, names_judged}
 use Rattle.vh_tree_static.proofs.names.uses_keep.Goals as goal
 

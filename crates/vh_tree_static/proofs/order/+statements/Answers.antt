@@ -1,7 +1,7 @@
 -- Of an `if` and of a branch, by their parts.
 use Rattle.vh_tree.specs.StaticRules.{uses_earlier}
 use Rattle.vh_tree_static.specs.Rules.{tests_early, usable_before}
-use Rattle.vh_tree_static.specs.Tables.{known_in}
+use Rattle.rw_base_tables.specs.Tables.{known_in}
 use Rattle.vh_tree_static.proofs.Statements.{other_kept, branch_broken, branch_kept}
 use Rattle.vh_tree_static.proofs.order.+statements.Goals as goal
 

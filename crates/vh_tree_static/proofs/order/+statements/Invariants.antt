@@ -3,7 +3,7 @@ use Rattle.std.proofs.Common.{◌≡◌, drop}
 use Rattle.std.specs.List.{list_all}
 use Rattle.vh_tree.specs.StaticRules.{stmt_uses_earlier, uses_earlier}
 use Rattle.vh_tree_static.specs.Rules.{branch_keeps, tests_early, usable_before}
-use Rattle.vh_tree_static.specs.Tables.{known_in}
+use Rattle.rw_base_tables.specs.Tables.{known_in}
 use Rattle.vh_tree_static.proofs.order.+statements.Given as goal
 
 abbrev pub invariant-stmts_are_early-loop-stmt : goal.invariant-stmts_are_early-loop-stmt

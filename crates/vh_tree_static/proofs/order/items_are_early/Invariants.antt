@@ -3,7 +3,7 @@ use Rattle.std.proofs.Common.{◌≡◌, ◌≤◌, true, drop, length, is_some,
 use Rattle.vh_tree.specs.Bits.{Bytes, is_among}
 use Rattle.vh_tree.specs.StaticRules.{all_use_earlier, functions_of}
 use Rattle.vh_tree.specs.declared.function.Function.{Function}
-use Rattle.vh_tree_static.specs.Tables.{known_in}
+use Rattle.rw_base_tables.specs.Tables.{known_in}
 use Rattle.vh_tree_static.proofs.order.items_are_early.Given as goal
 
 abbrev pub invariant-loop-at : goal.invariant-loop-at

@@ -2,7 +2,7 @@
 use Rattle.std.proofs.Common.{◌≡◌, drop}
 use Rattle.std.specs.List.{list_all}
 use Rattle.vh_tree_static.specs.Rules.{tests_early}
-use Rattle.vh_tree_static.specs.Tables.{known_in}
+use Rattle.rw_base_tables.specs.Tables.{known_in}
 use Rattle.vh_tree_static.proofs.order.tests_are_early.Given as goal
 
 abbrev pub invariant-loop-test : goal.invariant-loop-test

@@ -1,7 +1,7 @@
 -- A part more, and an argument more.
 use Rattle.std.proofs.Common.{sym, ◌∙◌}
 use Rattle.vh_tree_static.specs.Measures.{widths_over}
-use Rattle.vh_tree_static.specs.Tables.{known_in}
+use Rattle.rw_base_tables.specs.Tables.{known_in}
 use Rattle.vh_tree_static.proofs.Parts.{fits_on, total_more}
 use Rattle.vh_tree_static.proofs.widths.+expr.Goals as goal
 

@@ -4,7 +4,7 @@ use Rattle.std.specs.Prelude.{◌&&◌}
 use Rattle.std.specs.List.{list_all}
 use Rattle.vh_tree.specs.StaticRules.{Measured, all_agree, joined_width, measured}
 use Rattle.vh_tree_static.specs.Measures.{capped, widths_over}
-use Rattle.vh_tree_static.specs.Tables.{known_in}
+use Rattle.rw_base_tables.specs.Tables.{known_in}
 use Rattle.vh_tree_static.proofs.widths.+expr.Given as goal
 
 abbrev pub invariant-arguments_fit-loop-argument : goal.invariant-arguments_fit-loop-argument

@@ -1,9 +1,8 @@
 -- The entries with one more say what the table said, and what is new.
 use Rattle.std.proofs.Common.{ℕ, ◌∙◌, ap, Vec, Global}
-use Rattle.vh_tree.specs.Bits.{Bytes}
-use Rattle.vhdl_cycle_resolve.specs.Tables.{known_in, put}
-use Rattle.vhdl_cycle_resolve.proofs.Entries.{seen, inserted}
-use Rattle.vhdl_cycle_resolve.proofs.table.Table.put.Goals as goal
+use Rattle.rw_base_tables.specs.Tables.{Bytes, known_in, put}
+use Rattle.rw_base_tables.proofs.Entries.{seen, inserted}
+use Rattle.rw_base_tables.proofs.table.Table.put.Goals as goal
 
 pub returns : goal.returns
 returns g c = λ x.

@@ -1,7 +1,7 @@
 -- When two names are the same.
 use Rattle.std.proofs.Common.{◌≡◌, true, false, refl, sym, ap, ◌∙◌}
 use Rattle.std.proofs.lemmas.Slice.Eq.{bytes_eq-Decides}
-use Rattle.vh_tree.specs.Bits.{Bytes, same_name}
+use Rattle.rw_base_tables.specs.Tables.{Bytes, same_name}
 
 pub one_name : (a b : Bytes) → same_name a b ≡ true → a ≡ b
 one_name a b e = (bytes_eq-Decides a b).0 e

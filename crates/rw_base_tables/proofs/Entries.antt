@@ -1,9 +1,8 @@
 -- What the entries of a hash table say of a name.
 use Rattle.std.proofs.Common.{◌≡◌, Bool, true, false, cond, List, [], ◌∷◌, map, Option, Some, refl, sym, ap, ◌∙◌, true≢false, if◌then◌else◌}
 use Rattle.indexmap.specs.IndexMap.{IndexMap, get_by, with_entries, insert_entry}
-use Rattle.vh_tree.specs.Bits.{Bytes, same_name}
-use Rattle.vh_tree_static.specs.Tables.{known_in, put}
-use Rattle.vh_tree_static.proofs.Same.{one_name, swapped, same_itself}
+use Rattle.rw_base_tables.specs.Tables.{Bytes, same_name, known_in, put}
+use Rattle.rw_base_tables.proofs.Same.{one_name, swapped, same_itself}
 
 module _ {K V : Type 0} (of : K → Bytes) where
   abbrev pub seen : List (K × V) → List (Bytes × V)

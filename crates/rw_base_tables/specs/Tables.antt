@@ -1,6 +1,14 @@
 -- What a table says of names.
-use Rattle.std.specs.Prelude.{List, [], ◌∷◌, Option, Some, None, if◌then◌else◌}
-use Rattle.vh_tree.specs.Bits.{Bytes, same_name}
+use Rattle.std.specs.Prelude.{ℕ, List, [], ◌∷◌, Bool, nat_eq, Option, Some, None, if◌then◌else◌}
+use lib.Pointwise.{pointwise}
+
+-- a name: its bytes
+abbrev pub Bytes : Type 0
+Bytes = List ℕ
+
+-- whether two names are the same
+abbrev pub same_name : Bytes → Bytes → Bool
+same_name = pointwise nat_eq
 
 -- what each name has, if it has anything
 abbrev pub Known : Type 0 → Type 0

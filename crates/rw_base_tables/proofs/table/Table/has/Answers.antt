@@ -1,8 +1,8 @@
 -- The table says what its entries say.
 use Rattle.std.proofs.Common.{ℕ, ◌∙◌, ap, is_some, Vec, Global}
-use Rattle.vhdl_cycle_resolve.specs.Tables.{known_in}
-use Rattle.vhdl_cycle_resolve.proofs.Entries.{found}
-use Rattle.vhdl_cycle_resolve.proofs.table.Table.has.Goals as goal
+use Rattle.rw_base_tables.specs.Tables.{known_in}
+use Rattle.rw_base_tables.proofs.Entries.{found}
+use Rattle.rw_base_tables.proofs.table.Table.has.Goals as goal
 
 pub returns : goal.returns
 returns g c =
