@@ -11,7 +11,7 @@ use crate::lookup::width_table;
 use crate::table::get;
 use crate::vars::{add_signals, again, port};
 use crate::widths::{Callee, agree, measure};
-use rw_base::{OutOfMemory, VFail};
+use rw_base::OutOfMemory;
 use rw_base_tables::Table;
 use sqlite_items::Items;
 use std::alloc::Global;
