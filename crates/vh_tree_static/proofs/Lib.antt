@@ -9,3 +9,4 @@ pub mod Parts
 pub mod Statements
 pub mod Widened
 pub mod Wired
+mod Exact
