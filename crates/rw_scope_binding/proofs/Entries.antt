@@ -2,7 +2,7 @@
 use Rattle.std.proofs.Common.{◌≡◌, cond, Result, Ok, Err, OnErr, List, [], ◌∷◌, Some, refl, sym, ap, ◌∙◌, if◌then◌else◌}
 use Rattle.indexmap.specs.IndexMap.{IndexMap, get_by, with_entries}
 use Rattle.rw_scope_rules.specs.Names.{Bytes, same_name, first_named}
-use Rattle.rw_scope_binding.proofs.Same.{swapped}
+use Rattle.rw_scope_rules.proofs.Basics.{swapped}
 
 pub found : {V S : Type 0} (m : IndexMap Bytes V S) (x : Bytes) (es : List (Bytes × V)) → get_by (same_name x) (with_entries m es) ≡ first_named x es
 found m x [] = refl

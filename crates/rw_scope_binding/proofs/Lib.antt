@@ -1,5 +1,4 @@
 -- Lemmas.
-pub mod Same
 pub mod Entries
 pub mod Stacks
 pub mod Popped

@@ -7,7 +7,7 @@ use Rattle.rw_scope_rules.specs.Bindings.{Scope}
 use Rattle.rw_scope_binding.specs.Stack.{number_at}
 use Rattle.rw_scope_binding.specs.Binders.{names_from_latest, joined, Remembers, IsStack}
 use Rattle.rw_scope_binding.specs.declared.locals.Binder.{Binder}
-use Rattle.rw_scope_binding.proofs.Same.{one_name, same_itself}
+use Rattle.rw_scope_rules.proofs.Basics.{one_name, same_is}
 
 latest_first : (bs : List Binder) (b : Binder) → reverse (bs ++ b ∷ []) ≡ b ∷ reverse bs
 latest_first bs b = reverse-append bs (b ∷ [])
@@ -42,7 +42,7 @@ never_absent latest old new b stack is absent =
     let scope = names_from_latest (reverse new) in
     let none : None ≡ Some (length scope) =
     ap joined (sym absent) ∙ stack.tells b.name ∙ ap (λ bs. number_at b.name (names_from_latest bs)) order
-    ∙ ap (λ v. if v || false then Some (length scope) else number_at b.name scope) (same_itself b.name) in
+    ∙ ap (λ v. if v || false then Some (length scope) else number_at b.name scope) (same_is b.name b.name refl) in
     cc
 
 -- one name more
