@@ -9,11 +9,9 @@ ghost use Rattle.rw_parser_parts.specs.Within as within;
 ghost use Rattle.rw_parser_clauses.specs.Inside as inside;
 
 use crate::inside::Inside;
-use crate::look::{begins_last, begins_op, span_of};
-use crate::name::op;
 use rw_base::{NotSpelled, Span, Unread};
 use rw_parser_grammar::{Lexeme, Mark};
-use rw_parser_parts::{Chain, Frame, Head, Step, chained};
+use rw_parser_parts::{Chain, Frame, Head, Step, begins_last, begins_op, chained, op, span_of};
 use rw_parser_patterns::{after, apats, begins_apat, next_spot, rest_of, sees};
 use rw_tree::{Expr, Local};
 use sqlite_items::Items;

@@ -8,10 +8,9 @@ ghost use Rattle.rw_parser_parts.specs.Within as within;
 ghost use Rattle.rw_parser_clauses.specs.Inside as inside;
 
 use crate::inside::Inside;
-use crate::look::span_of;
 use rw_base::{Name, NotSpelled, OutOfMemory, Span, Unread};
 use rw_parser_grammar::{Lexeme, Mark};
-use rw_parser_parts::{left_side, read_block};
+use rw_parser_parts::{left_side, read_block, span_of};
 use rw_parser_patterns::read_pattern;
 use rw_tree::{Alt, Expr, Local, Pat};
 use sqlite_items::Items;

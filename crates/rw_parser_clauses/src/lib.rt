@@ -11,8 +11,6 @@ mod chain;
 mod clause;
 mod inside;
 mod local;
-mod look;
-mod name;
 mod nested;
 mod operand;
 mod read;

@@ -9,10 +9,12 @@ ghost use Rattle.rw_parser_clauses.specs.Inside as inside;
 
 use crate::clause::alone;
 use crate::inside::Inside;
-use crate::look::{begins_binding, begins_infix, begins_signature, span_of};
 use rw_base::{Name, NotSpelled, Span, Unread};
 use rw_parser_grammar::{Bound, Lexeme, Mark};
-use rw_parser_parts::{join, read_binding, read_block, read_signature};
+use rw_parser_parts::{
+    begins_binding, begins_infix, begins_signature, join, read_binding, read_block, read_signature,
+    span_of,
+};
 use rw_parser_patterns::after;
 use rw_tree::{Alt, Expr, Local};
 use sqlite_items::Items;

@@ -12,9 +12,9 @@ ghost use Rattle.rw_parser_parts.specs.Within as within;
 ghost use Rattle.rw_parser_clauses.specs.Inside as inside;
 
 use crate::inside::Inside;
-use crate::look::{begins_aexp, begins_operator, span_of};
 use rw_base::{NotSpelled, OutOfMemory, Span, Unread};
 use rw_parser_grammar::{Lexeme, Mark, Spot};
+use rw_parser_parts::{begins_aexp, begins_operator, span_of};
 use rw_parser_patterns::{after, few, rest_of, same_mark, sees, span_at};
 use rw_tree::{Expr, Local};
 use sqlite_items::{Boxed, Items};

@@ -10,10 +10,9 @@ ghost use Rattle.rw_parser_clauses.specs.Inside as inside;
 ghost use Rattle.rw_parser_clauses.specs.Last as last;
 
 use crate::inside::Inside;
-use crate::look::{begins_bind, span_of};
 use rw_base::{NotSpelled, OutOfMemory, Span, Unread};
 use rw_parser_grammar::{Lexeme, Mark};
-use rw_parser_parts::{cut_off, read_block};
+use rw_parser_parts::{begins_bind, cut_off, read_block, span_of};
 use rw_parser_patterns::{after, read_pattern, rest_of, sees};
 use rw_tree::{Expr, Local, Stmt};
 use sqlite_items::{Boxed, Items};
