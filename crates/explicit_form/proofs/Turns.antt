@@ -1,9 +1,7 @@
 -- One turn of each kind of loop.
-use Rattle.std.proofs.Common.{◌≡◌, ℕ, zero, suc, ◌+◌, true, false, List, [], ◌∷◌, ◌++◌, drop, Option, Some, None, refl, sym, ◌∙◌, ap, append_assoc, append-nil, add-one, ◌⊎◌, inl, inr}
-use Rattle.rw_base.specs.Answers.{Unread}
+use Rattle.std.proofs.Common.{◌≡◌, ℕ, zero, suc, ◌+◌, true, false, List, [], ◌∷◌, ◌++◌, drop, Some, None, refl, sym, ◌∙◌, ap, append_assoc, append-nil, add-one, ◌⊎◌, inl, inr}
 use Rattle.rw_base.specs.declared.fail.Failure.TheVariants as fail
 use Rattle.explicit_form.specs.Words.{Word, sees}
-use Rattle.rw_base.specs.Answers.{Fails}
 use Rattle.explicit_form.specs.Read.{Read, ◌>>=◌, separated_at, many_at}
 
 -- what is read from here on, behind what was read before

@@ -1,5 +1,5 @@
 -- Reading from the front of a list of words, as functions on lists.
-use Rattle.std.specs.Prelude.{ℕ, zero, suc, List, [], ◌∷◌, ◌≡◌, length, drop, Option, Some, None, Result, Ok, Err, if◌then◌else◌, codes, nat_lt}
+use Rattle.std.specs.Prelude.{ℕ, zero, suc, List, [], ◌∷◌, length, drop, Option, Some, None, if◌then◌else◌, codes, nat_lt}
 use Rattle.rw_lex.specs.declared.token.TokenKind.{TokenKind}
 use Rattle.rw_lex.specs.declared.token.TokenKind.TheVariants.{Variable, Constructor}
 use Rattle.explicit_form.specs.Words.{Word, same_kind, sees, variable, constructor, keyword, operator, special}
@@ -8,7 +8,6 @@ use Rattle.explicit_form.specs.declared.form.Ports.{Ports}
 use Rattle.explicit_form.specs.declared.form.Arm.{Arm}
 use Rattle.explicit_form.specs.declared.form.Function.{Function}
 use Rattle.explicit_form.specs.declared.form.Form.{Form}
-use Rattle.rw_base.specs.Answers.{Unread}
 use Rattle.rw_base.specs.declared.fail.Failure.TheVariants as fail
 
 -- a value and the words after it, or nothing

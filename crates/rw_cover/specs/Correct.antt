@@ -1,9 +1,7 @@
 -- The statement of `cover`: what its answers say of the groups of rows that a program has.
-use Rattle.std.specs.Prelude.{◌≡◌, ◌⊎◌, ◌∷◌, ◌++◌, List, false, Option, Result, Err}
+use Rattle.std.specs.Prelude.{◌≡◌, ◌∷◌, ◌++◌, List, false, Option}
 use Rattle.std.specs.List.{AllByRecursion}
 use Rattle.rw_base.specs.declared.place.Place.{Place}
-use Rattle.rw_base.specs.Answers.{Fail}
-use Rattle.rw_base.specs.declared.fail.Failure.TheVariants.{OutOfMemory}
 use Rattle.rw_scope_rules.specs.Names.{earliest}
 use Rattle.rw_cover_matrix.specs.Values.{Shapes, Values, AreValues}
 use Rattle.rw_cover_matrix.specs.Matching.{PlainPattern, AreRowsOf}

@@ -3,7 +3,6 @@ use Rattle.std.proofs.Common.{◌≡◌, ◌∙◌, ℕ, true, false, List, [], 
 use Rattle.std.proofs.lemmas.Grind.{common_steps}
 use Rattle.std.specs.Str.{bytes_eq}
 use Rattle.rw_parser_grammar.specs.Chains.{Strength, operator_name, groups_left, groups_right}
-use Rattle.rw_base.specs.Answers.{Fails}
 use Rattle.rw_parser_chains.specs.Grouping.{Counted, Waiting, applied_node, called_node, operated, strength_of, settled, closed}
 
 -- what was pushed last stands first in the reverse

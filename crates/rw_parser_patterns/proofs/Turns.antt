@@ -1,13 +1,11 @@
 -- One turn of each kind of loop.
-use Rattle.std.proofs.Common.{◌≡◌, ℕ, zero, suc, ◌+◌, Bool, true, false, List, [], ◌∷◌, ◌++◌, drop, Option, Some, None, refl, sym, ◌∙◌, ap, append_assoc, append-nil, add-one, ◌⊎◌, inl, inr, length}
-use Rattle.rw_base.specs.Answers.{Unread}
+use Rattle.std.proofs.Common.{◌≡◌, ℕ, zero, suc, ◌+◌, Bool, true, false, List, [], ◌∷◌, ◌++◌, drop, Some, None, refl, sym, ◌∙◌, ap, append_assoc, append-nil, add-one, ◌⊎◌, inl, inr, length}
 use Rattle.rw_base.specs.declared.fail.Failure.TheVariants as fail
 use Rattle.rw_base.specs.declared.place.Span.{Span}
 use Rattle.rw_tree.specs.declared.types.Written.{Written}
 use Rattle.rw_tree.specs.declared.pattern.Pat.{Pat}
 use Rattle.rw_parser_grammar.specs.declared.lexeme.Mark.{Mark}
 use Rattle.rw_parser_grammar.specs.declared.lexeme.Lexeme.{Lexeme}
-use Rattle.rw_base.specs.Answers.{Fails}
 use Rattle.rw_parser_reading.specs.Read.{◌>>=◌, Read, sees, separated_at, many_at}
 use Rattle.rw_parser_reading.specs.ReadTypes.{begins_atype, atype_at, atypes_at, begins_apat, apat_at, apats_at}
 

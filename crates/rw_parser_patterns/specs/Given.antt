@@ -1,11 +1,10 @@
 -- What a reader of the code gives, held against a function on lists.
-use Rattle.std.specs.Prelude.{◌≡◌, ℕ, ◌++◌, List, [], ◌∷◌, length, Option, Some, None, Result, Ok, Err}
+use Rattle.std.specs.Prelude.{ℕ, ◌++◌, List, [], ◌∷◌, length, Option, Some, None}
 use Rattle.rw_parser_grammar.specs.declared.lexeme.Lexeme.{Lexeme}
 use Rattle.rw_parser_reading.specs.Frames.{most, kept}
 use Rattle.rw_parser_reading.specs.Read.{Read}
 use Rattle.rw_tree.specs.declared.types.Written.{Written}
 use Rattle.rw_tree.specs.declared.types.Written.TheVariants as y
-use Rattle.rw_base.specs.Answers.{Unread}
 use Rattle.rw_base.specs.declared.fail.Failure.TheVariants as fail
 
 -- ---- trees that may not be kept

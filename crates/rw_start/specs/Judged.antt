@@ -1,6 +1,5 @@
 -- What the call's answer says of the rules, and when both are kept.
-use Rattle.std.specs.Prelude.{◌≡◌, ℕ, ◌+◌, [], Option, Some, None, Result, Ok, Err}
-use Rattle.rw_base.specs.Answers.{Fail}
+use Rattle.std.specs.Prelude.{◌≡◌, ℕ, ◌+◌, [], Option, None}
 use Rattle.rw_base.specs.declared.fail.Failure.TheVariants as fail
 use Rattle.rw_base.specs.declared.fail.Refusal.{Refusal}
 use Rattle.rw_base.specs.declared.rule.Rule.TheVariants.{E15, E16}

@@ -1,5 +1,5 @@
 -- An answer that says what was found is the answer to what is so.
-use Rattle.std.proofs.Common.{◌≡◌, inl, inr, true, false, Option, Some, None, Result, Ok, Err, IsOk, IsErrOf, refl, sym, ap, ◌∙◌}
+use Rattle.std.proofs.Common.{◌≡◌, inl, inr, Option, Some, None, Result, Ok, Err, IsOk, IsErrOf, refl, sym, ap, ◌∙◌}
 use Rattle.rw_base.specs.declared.rule.VRule.{VRule}
 use Rattle.rw_base.specs.declared.fail.Failure.TheVariants as fail
 use Rattle.rw_base.specs.Answers.{VFail, IsUnlessMemory}

@@ -1,10 +1,8 @@
 -- One turn of the loops over bytes.
 use Rattle.std.proofs.Common.{◌≡◌, ℕ, zero, suc, ◌+◌, ◌*◌, ◌-◌, ◌≤◌, ◌<◌, true, nat_lt, List, [], ◌∷◌, ◌++◌, length, get_or, drop, Option, Some, None, refl, sym, ◌∙◌, ap, append_assoc, append-nil, arith, add-one}
 use Rattle.std.proofs.lemmas.Bool.Decides.{nat_tests}
-use Rattle.rw_base.specs.Answers.{Unread}
 use Rattle.rw_base.specs.declared.fail.Failure.TheVariants as fail
 use Rattle.vh_tree.specs.declared.token.Token.{Token}
-use Rattle.rw_base.specs.Answers.{Fails}
 use Rattle.vh_tree_reading.specs.Scan.{◌>>=◌, front, added, tokens_at, scanned, read_on, value_of}
 
 abbrev pub behind_all : List Token → Option (List Token) → Option (List Token)

@@ -1,11 +1,9 @@
 -- One turn of each kind of loop.
-use Rattle.std.proofs.Common.{◌≡◌, ℕ, zero, suc, ◌+◌, Bool, true, false, List, [], ◌∷◌, ◌++◌, drop, Option, Some, None, refl, sym, ◌∙◌, ap, append_assoc, append-nil, add-one, ◌⊎◌, inl, inr, length, ◌<◌, ◌≤◌, get_or, arith}
-use Rattle.rw_base.specs.Answers.{Unread}
+use Rattle.std.proofs.Common.{◌≡◌, ℕ, zero, suc, ◌+◌, Bool, true, false, List, [], ◌∷◌, ◌++◌, drop, Some, None, refl, sym, ◌∙◌, ap, append_assoc, append-nil, add-one, ◌⊎◌, inl, inr, length, ◌<◌, ◌≤◌, get_or, arith}
 use Rattle.rw_base.specs.declared.fail.Failure.TheVariants as fail
 use Rattle.vh_tree.specs.declared.token.Mark.{Mark}
 use Rattle.vh_tree.specs.declared.token.Token.{Token}
 use Rattle.vh_tree.specs.declared.token.Side.{Side}
-use Rattle.rw_base.specs.Answers.{Fails}
 use Rattle.vh_tree_reading.specs.Scan.{◌>>=◌}
 use Rattle.vh_tree_reading.specs.Read.{Read, sees, after, separated_at, many_at, args_at, stmt_at, stmts_at, begins_stmt, choice_levels}
 use Rattle.vh_tree.specs.declared.token.Mark.TheVariants as m

@@ -1,5 +1,5 @@
 -- The answers to a text: the design that it spells, or the first of the rules V1 to V8 that it breaks.
-use Rattle.std.specs.Prelude.{◌≡◌, ◌⊎◌, ℕ, true, List, Some, Result, Ok, Err}
+use Rattle.std.specs.Prelude.{◌≡◌, ℕ, true, List, Some, Result, Ok, Err}
 use Rattle.rw_base.specs.declared.rule.VRule.{VRule}
 use Rattle.rw_base.specs.declared.rule.VRule.TheVariants as v
 use Rattle.vh_tree.specs.declared.design.Design.{Design}
