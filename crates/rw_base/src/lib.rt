@@ -25,6 +25,3 @@ pub use place::{Place, Span, place_of};
 pub use rule::{Rule, VRule};
 pub use store::{DeviceError, Sink, Store};
 pub use text::Text;
-
-#[cfg(test)]
-mod tests;

@@ -10,6 +10,3 @@ mod lines;
 mod workload;
 
 pub use workload::{inputs, source};
-
-#[cfg(test)]
-mod tests;

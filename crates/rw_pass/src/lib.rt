@@ -8,6 +8,3 @@
 mod pass;
 
 pub use pass::{Denotes, Pass, Then};
-
-#[cfg(test)]
-mod tests;

@@ -1,5 +1,5 @@
 // Sources and inputs that a script of its own made with the published generator, compared with ours.
-use crate::{inputs, source};
+use rw_gen::{inputs, source};
 use std::test::Fail;
 
 const TWO_STATES: &[u8] = b"data S = S0 | S1\nstart :: ReT Bool S I ()\nstart = d0\n\

@@ -1,6 +1,6 @@
 // Tests of what no clause says: worked values, and the answers of calls with ample memory.
 
-use crate::{
+use rw_base::{
     DeviceError, FileStore, MemorySink, MemoryStore, Name, Place, Rule, Sink, Store, StreamSink,
     Text, VRule, place_of,
 };

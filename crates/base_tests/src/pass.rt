@@ -1,8 +1,8 @@
 // Two small passes made one.
 ghost use Rattle.std.specs.Prelude.{◌≡◌, ◌<◌};
 
-use crate::{Denotes, Pass, Then};
 use rw_base::OutOfMemory;
+use rw_pass::{Denotes, Pass, Then};
 use std::alloc::Global;
 
 /// A wire of one bit with buffers on it, which shows its inputs.
