@@ -1,5 +1,5 @@
 -- Readers of the grammar with a level for each token inside types and patterns, whatever the levels outside: they read the same where there are enough.
-use Rattle.std.proofs.Common.{◌≡◌, ℕ, zero, suc, ◌-◌, ◌≤◌, List, [], ◌∷◌, length, Option, Some, None, refl, sym, ◌∙◌, arith}
+use Rattle.std.proofs.Common.{◌≡◌, ℕ, zero, suc, ◌-◌, ◌≤◌, List, [], ◌∷◌, length, None, refl, arith}
 use Rattle.rw_base.specs.declared.place.Span.{Span}
 use Rattle.rw_tree.specs.declared.expr.Expr.{Expr}
 use Rattle.rw_tree.specs.declared.clause.Alt.{Alt}
@@ -11,7 +11,7 @@ use Rattle.rw_parser_reading.specs.ReadTypes.{type_at, apats_at, pattern_at}
 use Rattle.rw_parser_reading.specs.ReadExpressions.{operand_at, closing_at, chain_at, expression_over_at}
 use Rattle.rw_parser_reading.specs.ReadClauses.{clause_at, alternative_at, alternatives_at, binding_at, local_at, locals_over_at, statement_at, statements_at}
 use Rattle.rw_parser_reading.specs.ReadLevels.{clause_over, local_over, alternatives_over, operand_over, expression_over, expression_at, locals_at, expression_below, locals_below}
-use Rattle.rw_parser_reading.proofs.Alike.{Alike, left, Agree, Pass, apats_alike}
+use Rattle.rw_parser_reading.proofs.Alike.{Agree, Pass, apats_alike}
 use Rattle.rw_parser_reading.proofs.AlikeExpressions.{operand_alike, closing_alike, expression_over_alike, left_side_alike, binding_alike, clause_alike, local_alike, alternatives_alike, locals_over_alike, statements_alike}
 use Rattle.rw_parser_reading.proofs.Agree.{shorter_agree, shorter_pass, nothing_alike, types_agree, patterns_agree, no_expression, no_locals, no_below, no_lower}
 use Rattle.rw_parser_patterns.specs.Depth.{any_type_at, any_pattern_at}
