@@ -4,41 +4,13 @@ ghost use Rattle.rw_parser.specs.Joined as joins;
 
 use rw_base::{Name, OutOfMemory, Span};
 use rw_parser_grammar::Item;
-use rw_parser_parts::Group;
+use rw_parser_parts::{Group, begun, longer};
 use rw_tree::{Alt, Decl};
 use sqlite_items::Items;
 use std::alloc::Global;
 
 /// Declarations that are whole, and a function whose clauses may go on.
 pub type Joined = (Items<Decl<Span>>, Option<Group>);
-
-// The group with one clause more.
-fn longer(group: Group, row: Alt<Span>) -> Result<Group, OutOfMemory>
-    ensures { IfOk result (λ made. made ≡ joins.longer group row) }
-{
-    let Group {
-        span,
-        name,
-        mut rows,
-    } = group;
-    let span = Span {
-        first: span.first,
-        from: span.from,
-        to: row.at.to,
-    };
-    rows.push(row)?;
-    Ok(Group { span, name, rows })
-}
-
-// A group of one clause.
-fn begun(alloc: Global, name: Name, row: Alt<Span>) -> Result<Group, OutOfMemory>
-    ensures { IfOk result (λ made. made ≡ joins.begun name row) }
-{
-    let span = row.at;
-    let mut rows = Items::new(alloc);
-    rows.push(row)?;
-    Ok(Group { span, name, rows })
-}
 
 /// What was joined, with the function that is open as one declaration.
 pub fn closed(joined: Joined) -> Result<Items<Decl<Span>>, OutOfMemory>
