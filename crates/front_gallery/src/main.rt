@@ -1,7 +1,7 @@
 //! The program `front_gallery`: it says whether the prelude's text spells the prelude's declarations, and then reads sources
 //! from standard input, each up to an empty line, and writes what is found of each, or the rule that it breaks and where,
 //! and then its first line. What is asked from there on is said by a line: `% tokens`, `% layout`, `% trees`, `% declarations`,
-//! `% scope` or `% types`, as `source.rt` has them.
+//! `% types` or `% check`, as `source.rt` has them.
 //!
 //! Each source goes through the stages of the front, as a source of the language does. What is written is compared with
 //! answers that were worked out by hand. Begin with `source.rt`; `prelude.rt` is apart.

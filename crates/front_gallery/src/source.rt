@@ -4,6 +4,7 @@ use crate::shown::show_last;
 use crate::tokens::{texts_shown, tokens_shown};
 use crate::tree::tree_of;
 use rw_base::{Fail, Span};
+use rw_front::front;
 use rw_layout::lay_out;
 use rw_lex::{Token, lex};
 use rw_parser::parse;
@@ -27,8 +28,8 @@ pub enum Question {
     Trees,
     /// How many declarations it has.
     Declarations,
-    /// Whether each of its names is bound as the rules on names, types and let groups want.
-    Scope,
+    /// The verdict on it: whether it breaks one of the rules E01 to E16.
+    Check,
     /// The types of the numbers of its last declaration.
     Types,
 }
@@ -78,10 +79,9 @@ fn types_of(alloc: Global, source: &str) -> Result<String, Fail> {
     Ok(shown)
 }
 
-// That the source is scoped, and its first line.
-fn scope_of(alloc: Global, source: &str) -> Result<String, Fail> {
-    let program = whole_of(alloc, source)?;
-    scope(alloc, &program)?;
+// That the source breaks no rule, and its first line.
+fn check_of(alloc: Global, source: &str) -> Result<String, Fail> {
+    front(alloc, source.as_bytes())?;
     let first = source.lines().next().unwrap_or("");
     Ok(format!(in alloc; "ok: {first}")?)
 }
@@ -93,7 +93,7 @@ impl Question {
             "% tokens" => Some(Question::Tokens),
             "% layout" => Some(Question::Layout),
             "% trees" => Some(Question::Trees),
-            "% scope" => Some(Question::Scope),
+            "% check" => Some(Question::Check),
             "% declarations" => Some(Question::Declarations),
             "% types" => Some(Question::Types),
             _ => None,
@@ -112,7 +112,7 @@ impl Question {
                 let program = program_of(alloc, source.as_bytes())?;
                 Ok(tree_of(alloc, program.decls.as_slice())?)
             }
-            Question::Scope => scope_of(alloc, source),
+            Question::Check => check_of(alloc, source),
             Question::Declarations => declarations_of(alloc, source),
             Question::Types => types_of(alloc, source),
         }

@@ -1,4 +1,4 @@
-//! The tests of scoping: nodes, bound names, the rule on each kind of name, circles of types and of functions, and the one call.
+//! The tests of scoping: bound names, the rule on each kind of name, circles of types and of functions, and the one call.
 //!
 //! It leaves the definitions to `rw_scope_rules` and computed programs to `source_worked`. It stands apart so that a rule is proved once,
 //! and not once more beside its tests; `typing_tests` reads its sources by it too. Begin with `source.rt` and `names.rt`.
@@ -14,8 +14,6 @@ mod groups;
 mod kinds;
 #[cfg(test)]
 mod names;
-#[cfg(test)]
-mod nodes;
 #[cfg(test)]
 mod scope;
 mod source;
