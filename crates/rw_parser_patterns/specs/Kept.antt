@@ -7,7 +7,7 @@ use Rattle.rw_parser_grammar.specs.declared.lexeme.Lexeme.{Lexeme}
 use Rattle.rw_parser_grammar.specs.declared.lexeme.Lexeme.TheVariants as t
 use Rattle.rw_parser_reading.specs.Frames.{frames_of_type, most, cut}
 use Rattle.rw_parser_grammar.specs.Types.{grouped_type, applied_type}
-use Rattle.rw_parser_reading.specs.Read.{Read, same_mark, sees, after, separated_at}
+use Rattle.rw_parser_reading.specs.Read.{◌>>=◌, Read, same_mark, sees, after, separated_at}
 use Rattle.rw_parser_reading.specs.ReadTypes.{atypes_at}
 use Rattle.rw_parser_patterns.specs.Given.{both, behind, counted}
 use Rattle.rw_parser_patterns.specs.Depth.{any_type_at}
