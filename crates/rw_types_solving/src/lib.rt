@@ -19,6 +19,3 @@ pub use condition::{all_hold, is_state_monad};
 pub use failure::{NoSolution, Unsolved};
 pub use table::Table;
 pub use term::{Head, Sort, Term, copied, count, has, instance, top};
-
-#[cfg(test)]
-mod tests;

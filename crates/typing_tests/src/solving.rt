@@ -2,10 +2,9 @@
 ghost use Rattle.std.specs.Prelude.{IfOk};
 ghost use Rattle.rw_types_solving.specs.Tables.{equations, IsTable};
 
-use crate::close::closed;
-use crate::condition::is_state_monad;
-use crate::differ::{Found, first_difference};
-use crate::{Head, Sort, Table, Term, Unsolved, copied, count, has, instance, top};
+use rw_types_solving::{
+    Head, Sort, Table, Term, Unsolved, closed, copied, count, has, instance, is_state_monad, top,
+};
 use sqlite_items::Items;
 use std::alloc::Global;
 
@@ -90,10 +89,34 @@ fn is_state(alloc: Global, monad: Term, states: &[bool]) -> Result<bool, Unsolve
     }
 }
 
+#[cycle(terms)]
+fn is_same(found: &Term, term: &Term) -> bool {
+    match (found, term) {
+        (Term::Var(x), Term::Var(y)) => x == y,
+        (Term::App(f, xs), Term::App(g, ys)) => {
+            *f == *g && are_same(xs.as_slice(), ys.as_slice())
+        }
+        _ => false,
+    }
+}
+
+#[cycle(terms)]
+fn are_same(found: &[Term], terms: &[Term]) -> bool {
+    if found.len() != terms.len() {
+        return false;
+    }
+    for (at, term) in found.iter().enumerate() {
+        if !is_same(term, &terms[at]) {
+            return false;
+        }
+    }
+    true
+}
+
 /// Whether the answer at this number is the type.
 fn is_at(types: &Items<Term>, x: usize, term: &Term) -> bool {
     match types.get(x) {
-        Some(found) => matches!(first_difference(found, term), Found::Same),
+        Some(found) => is_same(found, term),
         None => false,
     }
 }
