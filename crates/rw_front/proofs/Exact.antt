@@ -3,7 +3,7 @@ use Rattle.std.proofs.Common.{◌≡◌, inl, inr, Result, Ok, Err, ap, subst}
 use Rattle.rw_base.specs.Answers.{Fail}
 use Rattle.rw_base.specs.declared.fail.Failure.TheVariants as fail
 use Rattle.rw_base.specs.declared.fail.Refusal.{Refusal}
-use Rattle.rw_front.specs.Stages.{Stage, ◌then◌, IsExactAt, Answers}
+use Rattle.rw_front.specs.Stages.{Stage, ◌then◌, IsExactAt, AnswersBy}
 
 abbrev good : {B : Type 0} → B → Result B Refusal
 good made = Ok made
@@ -53,7 +53,7 @@ then_exact Is Becomes given first second (Err r) (Err x) (inr (b, p, q)) (inr (c
 
 -- what the second answers of what the first made
 pub answers_after : {A B C X : Type 0} (Is : Stage A B) (Becomes : Stage B C) (see : X → C) (given : A) (between : B) → Is given (Ok between)
-    → (r : Result X Fail) → Answers Becomes see between r → Answers (Is then Becomes) see given r
+    → (r : Result X Fail) → AnswersBy Becomes see between r → AnswersBy (Is then Becomes) see given r
 answers_after Is Becomes see given between p (Ok made) q = (between, p, q)
 answers_after Is Becomes see given between p (Err (fail.Refused refusal)) q = inr (between, p, q)
 answers_after Is Becomes see given between p (Err fail.OutOfMemory) q = tt
@@ -63,6 +63,6 @@ abbrev pub RefusedAs : {A B : Type 0} → Stage A B → A → Fail → Type 0
 RefusedAs Is given (fail.Refused refusal) = Is given (Err refusal)
 RefusedAs Is given fail.OutOfMemory = Unit {0}
 
-pub refused_first : {A B C X : Type 0} (Is : Stage A B) (Becomes : Stage B C) (see : X → C) (given : A) (f : Fail) → RefusedAs Is given f → Answers (Is then Becomes) see given (Err f)
+pub refused_first : {A B C X : Type 0} (Is : Stage A B) (Becomes : Stage B C) (see : X → C) (given : A) (f : Fail) → RefusedAs Is given f → AnswersBy (Is then Becomes) see given (Err f)
 refused_first Is Becomes see given (fail.Refused refusal) p = inl p
 refused_first Is Becomes see given fail.OutOfMemory p = tt

@@ -14,7 +14,7 @@ use Rattle.rw_parser_grammar.specs.Chains.{strength_of_name}
 use Rattle.rw_parser_grammar.specs.Grammar.{Spells, IsNotOfTheGrammar}
 use Rattle.rw_parser_grammar.specs.Resolution.{IsProgramResolved, FirstDeclarationBroken}
 use Rattle.rw_parser.specs.Frame.{IsBroken, Parses}
-use Rattle.rw_front.specs.Stages.{◌then◌, IsExactAt, Answers}
+use Rattle.rw_front.specs.Stages.{◌then◌, IsExactAt, AnswersBy}
 use Rattle.rw_front.specs.Verdict.{most_bytes, IsShort, HasTokens, IsLaidOut, IsParsed, IsRead}
 use Rattle.rw_front.proofs.Exact.{then_exact, answers_after}
 
@@ -84,13 +84,13 @@ module _ (one_program : (tokens : List Token) (a b : Program Span) → Spells to
 
 -- ---- what is answered
 
-pub parses_answers : (tokens : List Token) (r : Result (Program Span) Fail) → Parses tokens r → Answers IsParsed (λ program. program) tokens r
+pub parses_answers : (tokens : List Token) (r : Result (Program Span) Fail) → Parses tokens r → AnswersBy IsParsed (λ program. program) tokens r
 parses_answers tokens (Ok program) p = p
 parses_answers tokens (Err (fail.Refused refusal)) p = p
 parses_answers tokens (Err fail.OutOfMemory) p = tt
 
 pub read_answers : (bytes : List ℕ) (tokens laid : List Token) (r : Result (Program Span) Fail) → length bytes ≤ most_bytes → IsTokenList bytes tokens → layout_of tokens ≡ Ok laid
-    → Parses laid r → Answers IsRead (λ program. program) bytes r
+    → Parses laid r → AnswersBy IsRead (λ program. program) bytes r
 read_answers bytes tokens laid r short listed layout parsed =
     answers_after IsShort (HasTokens then (IsLaidOut then IsParsed)) (λ program. program) bytes bytes (refl, short) r
     (answers_after HasTokens (IsLaidOut then IsParsed) (λ program. program) bytes tokens listed r

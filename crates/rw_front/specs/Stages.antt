@@ -19,7 +19,7 @@ abbrev pub IsExactAt : {A B : Type 0} → Stage A B → A → Type 0
 IsExactAt {A} {B} Is given = (made other : Result B Refusal) → Is given made → Is given other → made ≡ other
 
 -- what is answered, with this seen of it, is what the stage makes or how it refuses; where memory ran out nothing is said
-abbrev pub Answers : {A B X : Type 0} → Stage A B → (X → B) → A → Result X Fail → Type 0
-Answers Is see given (Ok made) = Is given (Ok (see made))
-Answers Is see given (Err (fail.Refused refusal)) = Is given (Err refusal)
-Answers Is see given (Err fail.OutOfMemory) = Unit {0}
+abbrev pub AnswersBy : {A B X : Type 0} → Stage A B → (X → B) → A → Result X Fail → Type 0
+AnswersBy Is see given (Ok made) = Is given (Ok (see made))
+AnswersBy Is see given (Err (fail.Refused refusal)) = Is given (Err refusal)
+AnswersBy Is see given (Err fail.OutOfMemory) = Unit {0}

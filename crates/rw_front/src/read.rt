@@ -1,5 +1,5 @@
 // From bytes to a tree: the rules E01 to E05.
-ghost use Rattle.rw_front.specs.Stages.{Answers};
+ghost use Rattle.rw_front.specs.Stages.{AnswersBy};
 ghost use Rattle.rw_front.specs.Verdict.{IsShort, HasTokens, IsLaidOut, IsParsed, IsRead};
 
 use rw_base::{Fail, Place, Refusal, Rule, Span};
@@ -14,7 +14,7 @@ const MOST_BYTES: usize = 262_144;
 
 /// The tree that a source spells, with its chains of operators grouped, or the first of the rules E01 to E05 that it breaks.
 pub fn read(alloc: Global, bytes: &[u8]) -> Result<Program<Span>, Fail>
-    ensures { Answers IsRead (λ program. program) bytes.now result }
+    ensures { AnswersBy IsRead (λ program. program) bytes.now result }
 {
     if bytes.len() > MOST_BYTES {
         return Err(Fail::Refused(Refusal {

@@ -1,7 +1,7 @@
 // The front as a table of contents: a call a stage.
 ghost use Rattle.std.specs.Prelude.{◌≡◌, ◌++◌, IfOk, map, Ok, Err};
 ghost use Rattle.rw_tree.specs.Declarations.{plain_program};
-ghost use Rattle.rw_front.specs.Stages.{Answers};
+ghost use Rattle.rw_front.specs.Stages.{AnswersBy};
 ghost use Rattle.rw_front.specs.Verdict.{with_prelude, Keeps, IsScopedAs, IsTypedAs, IsCoveredAs, StartsAs, Verdict};
 ghost use Rattle.rw_front.specs.Fronts.{Fronts};
 

@@ -5,7 +5,7 @@ ghost use Rattle.rw_tree.specs.Declarations.{plain_program};
 ghost use Rattle.rw_scope_rules.specs.Bindings.{bound_program};
 ghost use Rattle.rw_types_rules.specs.Schemes.{world_of};
 ghost use Rattle.rw_types.specs.Inferred.{seen, AreDefault};
-ghost use Rattle.rw_front.specs.Stages.{Answers};
+ghost use Rattle.rw_front.specs.Stages.{AnswersBy};
 ghost use Rattle.rw_front.specs.Verdict.{told_of, Keeps, IsScopedAs, IsTypedAs, IsCoveredAs, StartsAs};
 
 use crate::report::reported;
@@ -31,7 +31,7 @@ fn told(program: &Program<Span>, fail: Fail) -> Fail
 
 /// E06 to E12: names, kinds, data types and let groups.
 pub fn scoped(alloc: Global, program: &Program<Span>) -> Result<Program<Bound>, Fail>
-    ensures answers { Answers (Keeps IsScopedAs) (λ _. plain_program (λ span. span) program.now) (plain_program (λ span. span) program.now) result }
+    ensures answers { AnswersBy (Keeps IsScopedAs) (λ _. plain_program (λ span. span) program.now) (plain_program (λ span. span) program.now) result }
     ensures bound { IfOk result (λ made. plain_program itself made ≡ bound_program (plain_program (λ span. span) program.now)) }
 {
     match scope(alloc, program) {
@@ -47,7 +47,7 @@ pub fn typed(
     bound: &Program<Bound>,
 ) -> Result<Items<TypedDecl>, Fail>
     requires { plain_program itself bound.now ≡ bound_program (plain_program (λ span. span) program.now) }
-    ensures answers { Answers (Keeps IsTypedAs) (λ _. plain_program (λ span. span) program.now) (plain_program (λ span. span) program.now) result }
+    ensures answers { AnswersBy (Keeps IsTypedAs) (λ _. plain_program (λ span. span) program.now) (plain_program (λ span. span) program.now) result }
     ensures typed { IfOk result (λ made. AreDefault (world_of (plain_program (λ span. span) program.now).declarations) (plain_program itself bound.now).declarations (map seen made)) }
 {
     match infer(alloc, bound) {
@@ -59,7 +59,7 @@ pub fn typed(
 /// E14: patterns cover.
 pub fn covered(alloc: Global, program: &Program<Span>, bound: &Program<Bound>) -> Result<(), Fail>
     requires { plain_program itself bound.now ≡ bound_program (plain_program (λ span. span) program.now) }
-    ensures { Answers (Keeps IsCoveredAs) (λ _. plain_program (λ span. span) program.now) (plain_program (λ span. span) program.now) result }
+    ensures { AnswersBy (Keeps IsCoveredAs) (λ _. plain_program (λ span. span) program.now) (plain_program (λ span. span) program.now) result }
 {
     match cover(alloc, bound) {
         Ok(()) => Ok(()),
@@ -70,7 +70,7 @@ pub fn covered(alloc: Global, program: &Program<Span>, bound: &Program<Bound>) -
 /// E15 and E16: `start` and its system.
 pub fn started(alloc: Global, program: &Program<Span>, bound: &Program<Bound>) -> Result<(), Fail>
     requires { plain_program itself bound.now ≡ bound_program (plain_program (λ span. span) program.now) }
-    ensures { Answers (Keeps StartsAs) (λ _. plain_program (λ span. span) program.now) (plain_program (λ span. span) program.now) result }
+    ensures { AnswersBy (Keeps StartsAs) (λ _. plain_program (λ span. span) program.now) (plain_program (λ span. span) program.now) result }
 {
     match check_start(alloc, bound) {
         Ok(()) => Ok(()),

@@ -18,7 +18,7 @@ use Rattle.rw_layout.specs.declared.entry.Entry.{Entry}
 use Rattle.rw_layout.specs.declared.role.Role.{Role}
 use Rattle.rw_layout.specs.declared.role.Before.{Before}
 use Rattle.rw_layout.specs.Layout.{Turn, closing, before_step, blocks_of, nearest, is_opener, reopened, close_to, placed, placed_as, opened, acted, asked, role_of, turn_of, broken_at, in_front, goes_on, layout_from, ended, closed_at_end, lowest_opener, last_place}
-use Rattle.rw_layout.specs.Steps.{turn_behind, Gives}
+use Rattle.rw_layout.specs.Steps.{turn_behind, Leaves}
 
 -- the blocks above an opener are closed, and it is popped
 pub close_found : (opener : Opener) (at : Place) (stack rest : List Entry) (out new : List Token) (blocks : ℕ) → blocks ≡ blocks_of stack → is_opener opener (slice_get stack blocks) ≡ true → new ≡ out ++ replicate blocks (closing at) → rest ≡ reopened opener at (drop 1 (drop blocks stack))
@@ -112,7 +112,7 @@ pub last_more : (tokens : List Token) (i : ℕ) (token : Token) → i < length t
 last_more tokens i token within is = grind (arith, common_steps)
 
 -- a refusal of the turn is that of the whole
-pub fails_on : {X : Type 0} (view : X → List Token) (failure : Fail) (at : Place) (new : Turn) (found : Option Turn) (whole : Result (List Token) Refusal) → Gives (Err failure) at new found → (found ≡ None → whole ≡ Err (broken_at at)) → Answers view (Err failure) whole
+pub fails_on : {X : Type 0} (view : X → List Token) (failure : Fail) (at : Place) (new : Turn) (found : Option Turn) (whole : Result (List Token) Refusal) → Leaves (Err failure) at new found → (found ≡ None → whole ≡ Err (broken_at at)) → Answers view (Err failure) whole
 fails_on view (fail.Refused refusal) at new found whole gives then = then gives.0 ∙ ap Err (sym gives.1)
 fails_on view fail.OutOfMemory at new found whole gives then = tt
 

@@ -32,10 +32,10 @@ column_met (Some (e.Block n of_let)) = n
 column_met entry = 0
 
 -- a call leaves what was found, or refuses by E04 at this place where nothing was, unless memory ran out
-abbrev pub Gives : {X : Type 0} → Result (Unit {0}) Fail → Place → X → Option X → Type 0
-Gives (Ok done) at new found = found ≡ Some new
-Gives (Err (fail.Refused refusal)) at new found = (found ≡ None) × (refusal ≡ broken_at at)
-Gives (Err fail.OutOfMemory) at new found = Unit {0}
+abbrev pub Leaves : {X : Type 0} → Result (Unit {0}) Fail → Place → X → Option X → Type 0
+Leaves (Ok done) at new found = found ≡ Some new
+Leaves (Err (fail.Refused refusal)) at new found = (found ≡ None) × (refusal ≡ broken_at at)
+Leaves (Err fail.OutOfMemory) at new found = Unit {0}
 
 -- what was done so far, as a turn
 abbrev pub so_far : Layout → Turn

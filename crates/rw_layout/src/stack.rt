@@ -2,7 +2,7 @@
 ghost use Rattle.std.specs.Prelude.{◌≡◌, ◌∷◌, [], ◌<◌, ◌^◌, drop, length, OnOk};
 ghost use Rattle.std.specs.List.{slice_get, prefix_len};
 ghost use Rattle.rw_layout.specs.Layout as spec;
-ghost use Rattle.rw_layout.specs.Steps.{Gives, is_run, column_met};
+ghost use Rattle.rw_layout.specs.Steps.{Leaves, is_run, column_met};
 ghost use Rattle.rw_base.specs.declared.fail.Failure.TheVariants as fail;
 
 use crate::{Entry, Opener};
@@ -96,7 +96,7 @@ impl Stack {
 
     /// Puts an entry on top, or refuses by E04 at this place where the stack is too high then.
     pub fn push(&mut self, entry: Entry, at: Place) -> Result<(), Fail>
-        ensures { Gives result at self.new (spec.pushed entry self.old) }
+        ensures { Leaves result at self.new (spec.pushed entry self.old) }
     {
         if self.len() >= HIGHEST {
             return Err(broken_at(at));

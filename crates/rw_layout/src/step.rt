@@ -3,7 +3,7 @@ ghost use Rattle.std.specs.Prelude.{◌≡◌, ◌++◌, ◌∷◌, [], IfOk, On
 ghost use Rattle.std.specs.Option.{option_map};
 ghost use Rattle.rw_base.specs.Answers.{Answers};
 ghost use Rattle.rw_layout.specs.Layout as spec;
-ghost use Rattle.rw_layout.specs.Steps.{Gives, laid, so_far, turn_behind};
+ghost use Rattle.rw_layout.specs.Steps.{Leaves, laid, so_far, turn_behind};
 ghost use Rattle.rw_layout.specs.declared.role.Before.TheVariants as b;
 
 use crate::entry::{has_parts_at, is_let_block, is_let_brace, is_opener, known_as};
@@ -117,7 +117,7 @@ impl Layout {
 
     // Opens the block that begins at a token, or an empty one before it.
     fn open_block(&mut self, alloc: Global, of_let: bool, role: Role, at: Place) -> Result<(), Fail>
-        ensures step { Gives result at (laid self.new) (option_map (spec.before_step self.old.out.items) (spec.open_block of_let role at self.old.stack)) }
+        ensures step { Leaves result at (laid self.new) (option_map (spec.before_step self.old.out.items) (spec.open_block of_let role at self.old.stack)) }
         ensures before { OnOk result (self.new.before ≡ self.old.before) }
     {
         if self.stack.enclosing() < at.column {
@@ -133,7 +133,7 @@ impl Layout {
 
     // What is inserted on account of where a token stands.
     fn place(&mut self, alloc: Global, role: Role, token: &Token) -> Result<(), Fail>
-        ensures step { Gives result token.now.at (laid self.new) (option_map (spec.before_step self.old.out.items) (spec.placed_as (spec.opened self.old.before role) role token.now self.old.stack)) }
+        ensures step { Leaves result token.now.at (laid self.new) (option_map (spec.before_step self.old.out.items) (spec.placed_as (spec.opened self.old.before role) role token.now self.old.stack)) }
         ensures before { OnOk result (self.new.before ≡ self.old.before) }
     {
         match self.before.opens(role) {
@@ -147,7 +147,7 @@ impl Layout {
 
     // Closes the blocks above the opener that is wanted, and pops it; `then` opens anew.
     fn close_to(&mut self, alloc: Global, opener: Opener, at: Place) -> Result<(), Fail>
-        ensures step { Gives result at (laid self.new) (option_map (spec.before_step self.old.out.items) (spec.close_to opener at self.old.stack)) }
+        ensures step { Leaves result at (laid self.new) (option_map (spec.before_step self.old.out.items) (spec.close_to opener at self.old.stack)) }
         ensures before { OnOk result (self.new.before ≡ self.old.before) }
     {
         let blocks = self.stack.run_len(Run::Blocks);
@@ -185,7 +185,7 @@ impl Layout {
 
     // What is inserted on account of what a token is.
     fn act(&mut self, alloc: Global, role: Role, at: Place) -> Result<(), Fail>
-        ensures { Gives result at (laid self.new) (option_map (spec.before_step self.old.out.items) (spec.acted role self.old.before at self.old.stack)) }
+        ensures { Leaves result at (laid self.new) (option_map (spec.before_step self.old.out.items) (spec.acted role self.old.before at self.old.stack)) }
     {
         match role {
             Role::Opens(opener) => {
@@ -224,7 +224,7 @@ impl Layout {
 
     /// Goes on behind a token, or refuses by E04 at it.
     pub fn take(&mut self, alloc: Global, token: &Token) -> Result<(), Fail>
-        ensures { Gives result token.now.at (so_far self.new) (option_map (turn_behind self.old.out.items) (spec.turn_of self.old.before token.now self.old.stack)) }
+        ensures { Leaves result token.now.at (so_far self.new) (option_map (turn_behind self.old.out.items) (spec.turn_of self.old.before token.now self.old.stack)) }
     {
         let role = role_of(token);
         self.place(alloc, role, token)?;

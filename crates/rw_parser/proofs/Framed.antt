@@ -11,7 +11,7 @@ use Rattle.rw_parser_reading.specs.Read.{◌>>=◌, after}
 use Rattle.rw_parser_reading.specs.ReadProgram.{header_at, runs_at, frame_at, items_at}
 use Rattle.rw_parser.specs.Shallow.{Kept, nothing, kept_behind}
 use Rattle.rw_parser.specs.Frame.{frame_tokens, kept_framed}
-use Rattle.rw_parser.specs.Reading.{Answers}
+use Rattle.rw_parser.specs.Reading.{KeepsAll}
 
 -- ---- the frame
 frame_by : (o : Option (List Lexeme)) → (o >>= (λ r. after m.OpensBlock r >>= (λ x. runs_at (length x) x))) ≡ ((o >>= (λ r. after m.OpensBlock r)) >>= (λ x. runs_at (length x) x))
@@ -42,8 +42,8 @@ pub no_runs : (ts rest : List Lexeme) → frame_tokens ts ≡ Some rest → is_s
 no_runs ts rest e f = a_frame ts rest e ∙ none_of (runs_at (length rest) rest) f
 
 pub with_frame : (n : ℕ) (ts rest : List Lexeme) (runs : List (List Lexeme × Lexeme)) (result : Result Kept Fail) → frame_tokens ts ≡ Some rest → runs_at (length rest) rest ≡ Some runs
-    → Answers result (kept_behind nothing (items_at n runs)) → Answers result (kept_framed n ts (frame_at ts))
-with_frame n ts rest runs result e f h = subst (λ z. Answers result (kept_framed n ts z)) (sym (a_frame ts rest e ∙ f)) h
+    → KeepsAll result (kept_behind nothing (items_at n runs)) → KeepsAll result (kept_framed n ts (frame_at ts))
+with_frame n ts rest runs result e f h = subst (λ z. KeepsAll result (kept_framed n ts z)) (sym (a_frame ts rest e ∙ f)) h
 
-pub without_frame : (n : ℕ) (ts : List Lexeme) (place : Place) → frame_at ts ≡ None → place ≡ first_place ts → Answers (Err (fail.Refused (record { rule = rule.E05; place = place }))) (kept_framed n ts (frame_at ts))
+pub without_frame : (n : ℕ) (ts : List Lexeme) (place : Place) → frame_at ts ≡ None → place ≡ first_place ts → KeepsAll (Err (fail.Refused (record { rule = rule.E05; place = place }))) (kept_framed n ts (frame_at ts))
 without_frame n ts place e f = (refl, ap (kept_framed n ts) e ∙ ap Err (sym f))

@@ -14,7 +14,7 @@ use Rattle.rw_parser_reading.specs.Read.{sees}
 use Rattle.rw_parser_reading.specs.ReadProgram.{run_at, runs_at, items_at}
 use Rattle.rw_parser.specs.Shallow.{Kept, with_kept, kept_behind}
 use Rattle.rw_parser.proofs.Runs.{whole_taken, one_run, last_run, no_run, runs_left}
-use Rattle.rw_parser.specs.Reading.{run_kept, Answers, AnswersRun}
+use Rattle.rw_parser.specs.Reading.{run_kept, KeepsAll, KeepsRun}
 use Rattle.rw_parser.proofs.Spelled.{run_next, run_refused}
 
 -- ---- one run
@@ -43,7 +43,7 @@ pub index_is : (ts : List Lexeme) (k : ℕ) (x end : Lexeme) → k < length ts �
 index_is ts k x end l f e = let g = dropped ts k x l f in cc
 
 -- a run of nothing
-pub nothing_next : (n : ℕ) (ts : List Lexeme) (k : ℕ) (end : Lexeme) (before : Kept) → k ≡ 0 → AnswersRun n (take k ts, end) before (Ok before)
+pub nothing_next : (n : ℕ) (ts : List Lexeme) (k : ℕ) (end : Lexeme) (before : Kept) → k ≡ 0 → KeepsRun n (take k ts, end) before (Ok before)
 nothing_next n ts k end before e = λ runs. ap (λ z. kept_behind before (items_at n ((z, end) ∷ runs))) (none_taken ts k e)
 
 module _ (n : ℕ) (ts : List Lexeme) (k : ℕ) (end : Lexeme) (place : Place) (before : Kept) (l : k < length ts) (some : (k ≡ 0) → ⊥) (first : place ≡ (next_spot ts).place) (small : k < n) (e : drop k ts ≡ end ∷ drop (k + 1) ts) where
@@ -56,7 +56,7 @@ module _ (n : ℕ) (ts : List Lexeme) (k : ℕ) (end : Lexeme) (place : Place) (
   place_is : place ≡ (next_spot (take k ts)).place
   place_is = first ∙ ap (λ z. z.place) (first_taken ts k l some)
 
-  pub kept_next : (o : Option Item) (after : Kept) → run_kept n (take k ts) end ≡ Some o → after ≡ with_kept before place o → AnswersRun n (take k ts, end) before (Ok after)
+  pub kept_next : (o : Option Item) (after : Kept) → run_kept n (take k ts) end ≡ Some o → after ≡ with_kept before place o → KeepsRun n (take k ts, end) before (Ok after)
   kept_next o after f g = λ runs. run_next n (take k ts) end place before within (some_taken ts k l some) place_is runs o f ∙ ap (λ z. kept_behind z (items_at n runs)) (sym g)
 
   pub refused_next : run_kept n (take k ts) end ≡ None → (runs : List (List Lexeme × Lexeme)) → kept_behind before (items_at n ((take k ts, end) ∷ runs)) ≡ Err place
@@ -101,6 +101,6 @@ left_none ts runs r (inl h) = h.1
 left_none ts runs r (inr h) = absurd (no_run h.0 ts runs h.1 r)
 
 -- a run that spells no item
-pub left_refused : (n : ℕ) (run : List Lexeme × Lexeme) (before : Kept) (e : Fail) (others : List (List Lexeme × Lexeme)) (found : Result Kept Place) → AnswersRun n run before (Err e) → kept_behind before (items_at n (run ∷ others)) ≡ found → Answers (Err e) found
+pub left_refused : (n : ℕ) (run : List Lexeme × Lexeme) (before : Kept) (e : Fail) (others : List (List Lexeme × Lexeme)) (found : Result Kept Place) → KeepsRun n run before (Err e) → kept_behind before (items_at n (run ∷ others)) ≡ found → KeepsAll (Err e) found
 left_refused n run before (fail.Refused refusal) others found h e = (h.0, sym e ∙ h.1 others)
 left_refused n run before fail.OutOfMemory others found h e = tt

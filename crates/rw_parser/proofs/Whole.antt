@@ -2,7 +2,7 @@
 use Rattle.std.proofs.Common.{◌≡◌, ◌∙◌, ℕ, ◌≤◌, List, length, Option, Some, None, Result, Ok, Err, refl, sym, ap, subst, inl, inr, arith}
 use Rattle.rw_base.specs.declared.place.Place.{Place}
 use Rattle.rw_base.specs.declared.place.Span.{Span}
-use Rattle.rw_base.specs.Answers.{Fail}
+use Rattle.rw_base.specs.Answers.{Fail, IsUnlessMemory}
 use Rattle.rw_base.specs.declared.fail.Failure.TheVariants as fail
 use Rattle.rw_base.specs.declared.fail.Refusal.{Refusal}
 use Rattle.rw_base.specs.declared.rule.Rule.TheVariants as rule
@@ -21,7 +21,6 @@ use Rattle.rw_parser_laws.proofs.Frames.{one_program}
 use Rattle.rw_parser_laws.proofs.ReadProgram.{items_sound, program_sound, place_sound, unframed, no_two_answers, one_place_of, count_from}
 use Rattle.rw_parser_laws.proofs.Shallow.{NoFunctions, items_no_functions, none_deep, earlier_broken, deep_broken}
 use Rattle.rw_parser_chains.proofs.Programs as chain
-use Rattle.rw_parser_fixity.specs.Found.{Answers}
 use Rattle.rw_parser.specs.Joined.{closed}
 use Rattle.rw_parser.proofs.Keeping.{kept_declarations, kept_deep}
 use Rattle.rw_parser.specs.Shallow.{Kept, nothing, keeping, kept_behind}
@@ -91,7 +90,7 @@ module _ (n : ℕ) (tokens : List Token) (found : Kept) (read : Items n tokens f
   pub answered : (program : Program Span) (deep : Option Place) (result : Result (Program Span) Fail) → program ≡ of_items (shallow read.items) → deep ≡ first_deep read.items → Grouped program deep result → Parses tokens result
   answered program deep result e f g = answered_at deep result (sym f) (subst (λ z. Grouped z deep result) e g)
 
-pub failed : (n : ℕ) (tokens : List Token) (e : Fail) → length tokens ≤ n → reading.Answers (Err e) (kept_framed n (lexemes tokens) (frame_at (lexemes tokens))) → Parses tokens (Err e)
+pub failed : (n : ℕ) (tokens : List Token) (e : Fail) → length tokens ≤ n → reading.KeepsAll (Err e) (kept_framed n (lexemes tokens) (frame_at (lexemes tokens))) → Parses tokens (Err e)
 failed n tokens (fail.Refused refusal) l h = (h.0, inl (place_sound n tokens refusal.place l (place_found n tokens refusal.place (frame_at (lexemes tokens)) refl h.1)))
 failed n tokens fail.OutOfMemory l h = tt
 
@@ -100,8 +99,8 @@ module _ (tokens : List Token) (ts : List Lexeme) (same : ts ≡ lexemes tokens)
   pub within : length ts ≤ length tokens
   within = let c = count_from 0 tokens in let l = ap length same in omega arith
 
-  pub broken_parse : (e : Fail) → reading.Answers (Err e) (kept_framed (length tokens) ts (frame_at ts)) → Parses tokens (Err e)
-  broken_parse e h = failed (length tokens) tokens e (omega arith) (subst (λ z. reading.Answers (Err e) (kept_framed (length tokens) z (frame_at z))) same h)
+  pub broken_parse : (e : Fail) → reading.KeepsAll (Err e) (kept_framed (length tokens) ts (frame_at ts)) → Parses tokens (Err e)
+  broken_parse e h = failed (length tokens) tokens e (omega arith) (subst (λ z. reading.KeepsAll (Err e) (kept_framed (length tokens) z (frame_at z))) same h)
 
   pub whole_parse : (found : Kept) (decls : List (Decl Span)) (result : Result (Program Span) Fail) → kept_framed (length tokens) ts (frame_at ts) ≡ Ok found → decls ≡ closed found.0
       → Grouped (record { decls = decls }) found.1 result → Parses tokens result
@@ -121,11 +120,11 @@ grouped_failed program (Some at) (fail.Refused refusal) h = let p = h refusal re
 
 -- ---- both ways
 module _ (tokens : List Token) where
-  pub kept_answer : (program resolved : Program Span) (result : Result (Program Span) Fail) → Spells tokens program → IsProgramResolved program resolved → Parses tokens result → Answers (Ok resolved) result
-  kept_answer program resolved (Err fail.OutOfMemory) d e h = tt
+  pub kept_answer : (program resolved : Program Span) (result : Result (Program Span) Fail) → Spells tokens program → IsProgramResolved program resolved → Parses tokens result → IsUnlessMemory (Ok resolved) result
+  kept_answer program resolved (Err fail.OutOfMemory) d e h = inr refl
   kept_answer program resolved (Ok made) d e h =
       let same : h.0 ≡ program = one_program tokens h.0 program h.1 d in
-      ap Ok (chain.one_program (subst (λ z. IsProgramResolved z made) same h.2) e)
+      inl (ap Ok (chain.one_program (subst (λ z. IsProgramResolved z made) same h.2) e))
   kept_answer program resolved (Err (fail.Refused refusal)) d e h =
       elim h.1 [
         | inl b ↦ absurd (no_two_answers tokens program refusal.place d b)
@@ -140,17 +139,17 @@ module _ (tokens : List Token) where
   same_refusal refusal at r p =
       ap (λ z. Err (fail.Refused z)) (ap (λ z. record { rule = z; place = refusal.place }) r ∙ ap (λ z. record { rule = rule.E05; place = z }) p)
 
-  pub grammar_answer : (at : Place) (result : Result (Program Span) Fail) → IsNotOfTheGrammar tokens at → Parses tokens result → Answers (refusal_at at) result
-  grammar_answer at (Err fail.OutOfMemory) b h = tt
+  pub grammar_answer : (at : Place) (result : Result (Program Span) Fail) → IsNotOfTheGrammar tokens at → Parses tokens result → IsUnlessMemory (refusal_at at) result
+  grammar_answer at (Err fail.OutOfMemory) b h = inr refl
   grammar_answer at (Ok made) b h = absurd (no_two_answers tokens h.0 at h.1 b)
   grammar_answer at (Err (fail.Refused refusal)) b h =
       elim h.1 [
-        | inl k ↦ same_refusal refusal at h.0 (one_place_of tokens refusal.place at k b)
+        | inl k ↦ inl (same_refusal refusal at h.0 (one_place_of tokens refusal.place at k b))
         | inr k ↦ absurd (no_two_answers tokens k.0 at k.1 b)
       ]
 
-  pub chain_answer : (program : Program Span) (at : Place) (result : Result (Program Span) Fail) → Spells tokens program → FirstDeclarationBroken (strength_of_name program.decls) program.decls at → Parses tokens result → Answers (refusal_at at) result
-  chain_answer program at (Err fail.OutOfMemory) d b h = tt
+  pub chain_answer : (program : Program Span) (at : Place) (result : Result (Program Span) Fail) → Spells tokens program → FirstDeclarationBroken (strength_of_name program.decls) program.decls at → Parses tokens result → IsUnlessMemory (refusal_at at) result
+  chain_answer program at (Err fail.OutOfMemory) d b h = inr refl
   chain_answer program at (Ok made) d b h =
       let same : h.0 ≡ program = one_program tokens h.0 program h.1 d in
       absurd (chain.apart (subst (λ z. IsProgramResolved z made) same h.2) b)
@@ -158,5 +157,5 @@ module _ (tokens : List Token) where
       elim h.1 [
         | inl k ↦ absurd (no_two_answers tokens program refusal.place d k)
         | inr k ↦ let same : k.0 ≡ program = one_program tokens k.0 program k.1 d in
-            same_refusal refusal at h.0 (chain.one_place program (subst (λ z. FirstDeclarationBroken (strength_of_name z.decls) z.decls refusal.place) same k.2) b)
+            inl (same_refusal refusal at h.0 (chain.one_place program (subst (λ z. FirstDeclarationBroken (strength_of_name z.decls) z.decls refusal.place) same k.2) b))
       ]

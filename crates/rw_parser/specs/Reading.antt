@@ -19,13 +19,13 @@ run_kept n run end = do
   if is_last end p.1 then Some p.0 else None
 
 -- what was answered is what was found, or E05 is broken where the first run spells no item; want of memory says nothing
-abbrev pub Answers : Result Kept Fail → Result Kept Place → Type 0
-Answers (Ok after) found = found ≡ Ok after
-Answers (Err (fail.Refused refusal)) found = (refusal.rule ≡ rule.E05) × (found ≡ Err refusal.place)
-Answers (Err fail.OutOfMemory) found = Unit {0}
+abbrev pub KeepsAll : Result Kept Fail → Result Kept Place → Type 0
+KeepsAll (Ok after) found = found ≡ Ok after
+KeepsAll (Err (fail.Refused refusal)) found = (refusal.rule ≡ rule.E05) × (found ≡ Err refusal.place)
+KeepsAll (Err fail.OutOfMemory) found = Unit {0}
 
 -- one run behind what is kept, whatever stands behind it
-abbrev pub AnswersRun : ℕ → List Lexeme × Lexeme → Kept → Result Kept Fail → Type 0
-AnswersRun n run before (Ok after) = (runs : List (List Lexeme × Lexeme)) → kept_behind before (items_at n (run ∷ runs)) ≡ kept_behind after (items_at n runs)
-AnswersRun n run before (Err (fail.Refused refusal)) = (refusal.rule ≡ rule.E05) × ((runs : List (List Lexeme × Lexeme)) → kept_behind before (items_at n (run ∷ runs)) ≡ Err refusal.place)
-AnswersRun n run before (Err fail.OutOfMemory) = Unit {0}
+abbrev pub KeepsRun : ℕ → List Lexeme × Lexeme → Kept → Result Kept Fail → Type 0
+KeepsRun n run before (Ok after) = (runs : List (List Lexeme × Lexeme)) → kept_behind before (items_at n (run ∷ runs)) ≡ kept_behind after (items_at n runs)
+KeepsRun n run before (Err (fail.Refused refusal)) = (refusal.rule ≡ rule.E05) × ((runs : List (List Lexeme × Lexeme)) → kept_behind before (items_at n (run ∷ runs)) ≡ Err refusal.place)
+KeepsRun n run before (Err fail.OutOfMemory) = Unit {0}

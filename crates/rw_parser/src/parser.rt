@@ -10,11 +10,11 @@ ghost use Rattle.rw_parser_grammar.specs.Grammar as grammar;
 ghost use Rattle.rw_parser_grammar.specs.Grammar.{Spells, IsNotOfTheGrammar};
 ghost use Rattle.rw_parser_reading.specs.ReadProgram as spec;
 ghost use Rattle.rw_parser_grammar.specs.Resolution.{IsProgramResolved, FirstDeclarationBroken};
-ghost use Rattle.rw_parser_fixity.specs.Found as found;
+ghost use Rattle.rw_base.specs.Answers.{IsUnlessMemory};
 ghost use Rattle.rw_base.specs.Answers.{Gives};
 ghost use Rattle.rw_parser.specs.Clauses.{ReadsClauses};
 ghost use Rattle.rw_parser.specs.Frame.{frame_tokens, kept_framed, Grouped, Parses};
-ghost use Rattle.rw_parser.specs.Reading.{Answers};
+ghost use Rattle.rw_parser.specs.Reading.{KeepsAll};
 
 use crate::program::{broken, read_runs};
 use crate::{Kept, are_runs, closed};
@@ -57,7 +57,7 @@ fn kept_items<R: Fn(&[Lexeme]) -> Result<(Option<(Name, Alt<Span>)>, &[Lexeme]),
     tokens: &[Lexeme],
 ) -> Result<Kept, Fail>
     requires { R.IsAlwaysCallable clause.now }
-    ensures { ReadsClauses (R.post clause.now) → (n : ℕ) → length tokens.now ≤ n → Answers result (kept_framed n tokens.now (spec.frame_at tokens.now)) }
+    ensures { ReadsClauses (R.post clause.now) → (n : ℕ) → length tokens.now ≤ n → KeepsAll result (kept_framed n tokens.now (spec.frame_at tokens.now)) }
 {
     match framed(alloc, tokens) {
         Ok(rest) => {
@@ -115,9 +115,9 @@ fn parse_over<R: Fn(&[Lexeme]) -> Result<(Option<(Name, Alt<Span>)>, &[Lexeme]),
 /// without a tree, or has more than 512 levels: at the first such item; each clause of a function is an item.
 pub fn parse(alloc: Global, tokens: &[Token]) -> Result<Program<Span>, Fail>
     ensures parses { Parses tokens.now result }
-    ensures kept { (program resolved : Program Span) → Spells tokens.now program → IsProgramResolved program resolved → found.Answers (Ok resolved) result }
-    ensures unspelled { (at : Place) → IsNotOfTheGrammar tokens.now at → found.Answers (Err (fail.Refused (record { rule = rule.E05; place = at }))) result }
-    ensures broken { (program : Program Span) (at : Place) → Spells tokens.now program → FirstDeclarationBroken (strength_of_name program.decls) program.decls at → found.Answers (Err (fail.Refused (record { rule = rule.E05; place = at }))) result }
+    ensures kept { (program resolved : Program Span) → Spells tokens.now program → IsProgramResolved program resolved → IsUnlessMemory (Ok resolved) result }
+    ensures unspelled { (at : Place) → IsNotOfTheGrammar tokens.now at → IsUnlessMemory (Err (fail.Refused (record { rule = rule.E05; place = at }))) result }
+    ensures broken { (program : Program Span) (at : Place) → Spells tokens.now program → FirstDeclarationBroken (strength_of_name program.decls) program.decls at → IsUnlessMemory (Err (fail.Refused (record { rule = rule.E05; place = at }))) result }
 {
     parse_over(alloc, &|run| read_clause(alloc, MAX_LEVELS, run), tokens)
 }

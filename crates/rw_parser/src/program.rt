@@ -8,7 +8,7 @@ ghost use Rattle.rw_parser_reading.specs.ReadProgram as spec;
 ghost use Rattle.rw_base.specs.Answers.{Gives};
 ghost use Rattle.rw_parser.specs.Shallow.{kept_behind, nothing};
 ghost use Rattle.rw_parser.specs.Clauses.{ReadsClauses};
-ghost use Rattle.rw_parser.specs.Reading.{Answers, AnswersRun, run_kept};
+ghost use Rattle.rw_parser.specs.Reading.{KeepsAll, KeepsRun, run_kept};
 
 use crate::item::read_item;
 use crate::{Kept, run_length, tokens_from, with_kept};
@@ -84,7 +84,7 @@ fn with_run<R: Fn(&[Lexeme]) -> Result<(Option<(Name, Alt<Span>)>, &[Lexeme]), U
 ) -> Result<Kept, Fail>
     requires callable { R.IsAlwaysCallable clause.now }
     requires within { run < length tokens.now }
-    ensures { ReadsClauses (R.post clause.now) → (n : ℕ) (end : Lexeme) → run < n → drop run tokens.now ≡ end ∷ drop (run + 1) tokens.now → AnswersRun n (take run tokens.now, end) kept result }
+    ensures { ReadsClauses (R.post clause.now) → (n : ℕ) (end : Lexeme) → run < n → drop run tokens.now ≡ end ∷ drop (run + 1) tokens.now → KeepsRun n (take run tokens.now, end) kept result }
 {
     if run == 0 {
         return Ok(kept);
@@ -105,7 +105,7 @@ pub fn read_runs<R: Fn(&[Lexeme]) -> Result<(Option<(Name, Alt<Span>)>, &[Lexeme
     tokens: &[Lexeme],
 ) -> Result<Kept, Fail>
     requires { R.IsAlwaysCallable clause.now }
-    ensures { ReadsClauses (R.post clause.now) → (n : ℕ) (runs : List (List Lexeme × Lexeme)) → length tokens.now ≤ n → spec.runs_at (length tokens.now) tokens.now ≡ Some runs → Answers result (kept_behind nothing (spec.items_at n runs)) }
+    ensures { ReadsClauses (R.post clause.now) → (n : ℕ) (runs : List (List Lexeme × Lexeme)) → length tokens.now ≤ n → spec.runs_at (length tokens.now) tokens.now ≡ Some runs → KeepsAll result (kept_behind nothing (spec.items_at n runs)) }
 {
     let mut kept = ((Items::new(alloc), None), None);
     let mut rest = tokens;

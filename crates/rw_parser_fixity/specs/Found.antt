@@ -18,8 +18,3 @@ abbrev pub Finds : {X : Type 0} → (X → Type 0) → (Place → Type 0) → Re
 Finds good broken (Ok x) = good x
 Finds good broken (Err (fail.Refused refusal)) = (refusal.rule ≡ rule.E05) × broken refusal.place
 Finds good broken (Err fail.OutOfMemory) = Unit {0}
-
--- this is the answer, unless memory ran out
-abbrev pub Answers : {X : Type 0} → Result X Fail → Result X Fail → Type 0
-Answers given (Err fail.OutOfMemory) = Unit {0}
-Answers given result = result ≡ given

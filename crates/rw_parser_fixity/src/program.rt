@@ -2,13 +2,13 @@
 ghost use Rattle.std.specs.Prelude.{◌≡◌, Ok, Err, IfOk};
 ghost use Rattle.rw_base.specs.declared.place.Place.{Place};
 ghost use Rattle.rw_base.specs.declared.place.Span.{Span};
+ghost use Rattle.rw_base.specs.Answers.{IsUnlessMemory};
 ghost use Rattle.rw_base.specs.declared.fail.Refusal.{Refusal};
 ghost use Rattle.rw_base.specs.declared.fail.Failure.TheVariants as fail;
 ghost use Rattle.rw_base.specs.declared.rule.Rule.TheVariants as rule;
 ghost use Rattle.rw_tree.specs.declared.program.Program.{Program};
 ghost use Rattle.rw_parser_grammar.specs.Chains.{strength_of_name};
 ghost use Rattle.rw_parser_grammar.specs.Resolution.{IsProgramResolved, FirstDeclarationBroken};
-ghost use Rattle.rw_parser_fixity.specs.Found.{Answers};
 
 use crate::items::items;
 use rw_base::{Fail, Span};
@@ -26,8 +26,8 @@ use std::alloc::Global;
 pub fn resolve_fixity(alloc: Global, program: &Program<Span>) -> Result<Program<Span>, Fail>
     ensures resolved { IfOk result (λ resolved. IsProgramResolved program.now resolved) }
     ensures refused { (refusal : Refusal) → result ≡ Err (fail.Refused refusal) → (refusal.rule ≡ rule.E05) × FirstDeclarationBroken (strength_of_name program.now.decls) program.now.decls refusal.place }
-    ensures kept { (resolved : Program Span) → IsProgramResolved program.now resolved → Answers (Ok resolved) result }
-    ensures broken { (at : Place) → FirstDeclarationBroken (strength_of_name program.now.decls) program.now.decls at → Answers (Err (fail.Refused (record { rule = rule.E05; place = at }))) result }
+    ensures kept { (resolved : Program Span) → IsProgramResolved program.now resolved → IsUnlessMemory (Ok resolved) result }
+    ensures broken { (at : Place) → FirstDeclarationBroken (strength_of_name program.now.decls) program.now.decls at → IsUnlessMemory (Err (fail.Refused (record { rule = rule.E05; place = at }))) result }
 {
     let fixities = Fixities::of(alloc, program.decls.as_slice())?;
     Ok(Program {
