@@ -22,8 +22,8 @@ returns-else-are_runs g c = λ reads n l.
     let none : is_some (runs_at (length rest) rest) ≡ false = sym c.are_runs.ensures ∙ c.if-are_runs.false in
     rw c.broken.ensures (without_frame n ts c.first_place.result (no_runs ts rest c.in-Ok.ensures.read none) c.first_place.ensures)
 
-pub returns-in-Err-NotSpelled : goal.returns-in-Err-NotSpelled
-returns-in-Err-NotSpelled g c = λ reads n l.
+pub returns-in-Err-Refused : goal.returns-in-Err-Refused
+returns-in-Err-Refused g c = λ reads n l.
     let ts = c.args.tokens.now in
-    let none : frame_tokens ts ≡ None = rw c.in-Err-NotSpelled.field-0-is at c.in-Err-NotSpelled.ensures.read in
-    rw c.broken-in-Err-NotSpelled.ensures (without_frame n ts c.first_place-in-Err-NotSpelled.result (no_frame ts none) c.first_place-in-Err-NotSpelled.ensures)
+    let none : frame_tokens ts ≡ None = rw c.in-Err-Refused.field-0-is at c.in-Err-Refused.ensures.read in
+    rw c.broken-in-Err-Refused.ensures (without_frame n ts c.first_place-in-Err-Refused.result (no_frame ts none) c.first_place-in-Err-Refused.ensures)

@@ -18,8 +18,8 @@ returns-in-Ok g c = λ reads n end small e.
     let found = c.in-Ok.ensures reads n (take k ts) w (taken_within ts k n c.requires.within small) in
     kept_next n ts k end place c.args.kept c.requires.within some first small e c.in-Ok.item c.in_ok-with_kept-in-Ok.field-0 (sym (ap (run_kept n (take k ts)) same) ∙ found) c.in_ok-with_kept-in-Ok.ensures
 
-pub returns-in-Err-NotSpelled : goal.returns-in-Err-NotSpelled
-returns-in-Err-NotSpelled g c = λ reads n end small e.
+pub returns-in-Err-Refused : goal.returns-in-Err-Refused
+returns-in-Err-Refused g c = λ reads n end small e.
     let ts = c.args.tokens.now in
     let k = c.args.run in
     let place = c.next_spot.result.place in
@@ -27,5 +27,5 @@ returns-in-Err-NotSpelled g c = λ reads n end small e.
     let some : (k ≡ 0) → ⊥ = λ z. c.if-run-eq0.false z in
     let same = index_is ts k c.index-tokens-run.result end c.requires.within c.index-tokens-run.is e in
     let w = whole n ts k end place c.args.kept c.requires.within some first small e ∙ ap (whole_run (take k ts)) (sym same) in
-    let found : run_kept n (take k ts) c.index-tokens-run.result ≡ None = rw c.in-Err-NotSpelled.field-0-is at (c.in-Err-NotSpelled.ensures reads n (take k ts) w (taken_within ts k n c.requires.within small)) in
+    let found : run_kept n (take k ts) c.index-tokens-run.result ≡ None = rw c.in-Err-Refused.field-0-is at (c.in-Err-Refused.ensures reads n (take k ts) w (taken_within ts k n c.requires.within small)) in
     rw c.broken.ensures (refl, refused_next n ts k end place c.args.kept c.requires.within some first small e (sym (ap (run_kept n (take k ts)) same) ∙ found))

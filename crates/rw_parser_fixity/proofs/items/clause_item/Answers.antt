@@ -10,5 +10,5 @@ returns-then-levels-lt-MAX_LEVELS c = clause_kept (strength_at c.args.fixities.n
 pub returns-else-levels-lt-MAX_LEVELS : goal.returns-else-levels-lt-MAX_LEVELS
 returns-else-levels-lt-MAX_LEVELS c = rw c.refused.ensures (refl, (clause_deep (strength_at c.args.fixities.now) c.args.row.now c.in-Ok.made c.in-Ok.levels c.in-Ok.ensures (omega arith), refl))
 
-pub returns-in-Err-Broken : goal.returns-in-Err-Broken
-returns-in-Err-Broken c = rw c.refused-in-Err-Broken.ensures (refl, (clause_none (strength_at c.args.fixities.now) c.args.row.now (rw c.in-Err-Broken.field-0-is at c.in-Err-Broken.ensures), refl))
+pub returns-in-Err-Refused : goal.returns-in-Err-Refused
+returns-in-Err-Refused c = rw c.refused-in-Err-Refused.ensures (refl, (clause_none (strength_at c.args.fixities.now) c.args.row.now (rw c.in-Err-Refused.field-0-is at c.in-Err-Refused.ensures), refl))
