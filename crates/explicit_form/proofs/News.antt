@@ -11,12 +11,12 @@ use Rattle.rw_base.specs.Answers.{Fails}
 
 -- a refusal's cause is one of the whole
 pub refused_on : (e : Unread) (a b : Bool) → Refuses e a → (a ≡ false → b ≡ false) → Refuses e b
-refused_on (fail.Refused (record {})) a b h f = f h
+refused_on (fail.Refused r) a b h f = f h
 refused_on fail.OutOfMemory a b h f = tt
 
 -- a refusal without its cause
 pub not_refused : {Y : Type 0} (e : Unread) (b : Bool) (found : Option Y) → Refuses e b → b ≡ true → Fails e found
-not_refused (fail.Refused (record {})) b found h k = absurd (cc)
+not_refused (fail.Refused r) b found h k = absurd (cc)
 not_refused fail.OutOfMemory b found h k = tt
 
 pub both : (a b : Bool) → (a && b) ≡ true → (a ≡ true) × (b ≡ true)

@@ -38,7 +38,7 @@ nothing_read source tokens form only s none = let some = tree_read source tokens
 pub tree_refused : (source : List ℕ) (tokens : List Token) (r : Result Form Unread) → Gives (λ x. x) r (form_at (words_of tokens)) → HasOnly source tokens
     → IsErrOf r (fail.Refused (record {})) → (form : Form) → Spells source form → ⊥
 tree_refused source tokens (Ok found) g only e form s = cc
-tree_refused source tokens (Err (fail.Refused (record {}))) g only e form s = nothing_read source tokens form only s g
+tree_refused source tokens (Err (fail.Refused r)) g only e form s = nothing_read source tokens form only s g
 tree_refused source tokens (Err fail.OutOfMemory) g only e form s = cc
 
 pub tree_only : (source : List ℕ) (tokens : List Token) (r : Result Form Unread) → Gives (λ x. x) r (form_at (words_of tokens)) → HasOnly source tokens

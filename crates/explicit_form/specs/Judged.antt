@@ -14,7 +14,7 @@ taken_of Function = taken_functions
 
 -- a refusal has its cause; nothing is said where memory ran out
 abbrev pub Refuses : Unread → Bool → Type 0
-Refuses (fail.Refused (record {})) fits = fits ≡ false
+Refuses (fail.Refused r) fits = fits ≡ false
 Refuses fail.OutOfMemory fits = Unit {0}
 
 -- the call finds a value exactly where the test passes, and the value is right, unless memory ran out

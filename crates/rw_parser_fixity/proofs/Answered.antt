@@ -30,18 +30,18 @@ module _ (program : Program Span) where
       broken_of (AreDeclarationsResolved strength decls) (AreDeclarationsResolved strength decls) (FirstDeclarationBroken strength decls) Breaks
       (λ place b. subst (λ z. FirstDeclarationBroken z program.decls place) f (subst (λ z. FirstDeclarationBroken strength z place) g b)) e h
 
-  pub kept_made : (made : Program Span) → IsProgramResolved program made → (resolved : Program Span) → IsProgramResolved program resolved → IsUnlessMemory (Ok resolved) (Ok made)
+  pub kept_made : (made : Program Span) → IsProgramResolved program made → (resolved : Program Span) → IsProgramResolved program resolved → IsUnlessMemory {A = Program Span} {R = Refusal} (Ok resolved) (Ok made)
   kept_made made d resolved e = inl (ap Ok (one_program d e))
 
-  pub broken_made : (made : Program Span) → IsProgramResolved program made → (place : Place) → Breaks place → IsUnlessMemory {A = Program Span} (Err (fail.Refused (record { rule = rule.E05; place = place }))) (Ok made)
+  pub broken_made : (made : Program Span) → IsProgramResolved program made → (place : Place) → Breaks place → IsUnlessMemory {A = Program Span} {R = Refusal} (Err (fail.Refused (record { rule = rule.E05; place = place }))) (Ok made)
   broken_made made d place b = absurd (apart d b)
 
   module _ {X : Type 0} (good : X → Type 0) where
-    pub kept_failed : (e : Fail) → Finds good Breaks (Err e) → (resolved : Program Span) → IsProgramResolved program resolved → IsUnlessMemory (Ok resolved) (Err e)
+    pub kept_failed : (e : Fail) → Finds good Breaks (Err e) → (resolved : Program Span) → IsProgramResolved program resolved → IsUnlessMemory {A = Program Span} {R = Refusal} (Ok resolved) (Err e)
     kept_failed (fail.Refused refusal) h resolved d = absurd (apart d h.1)
     kept_failed fail.OutOfMemory h resolved d = inr refl
 
-    pub broken_failed : (e : Fail) → Finds good Breaks (Err e) → (place : Place) → Breaks place → IsUnlessMemory {A = Program Span} (Err (fail.Refused (record { rule = rule.E05; place = place }))) (Err e)
+    pub broken_failed : (e : Fail) → Finds good Breaks (Err e) → (place : Place) → Breaks place → IsUnlessMemory {A = Program Span} {R = Refusal} (Err (fail.Refused (record { rule = rule.E05; place = place }))) (Err e)
     broken_failed (fail.Refused refusal) h place b =
         let same : refusal.place ≡ place = one_place program h.1 b in
         let all : refusal ≡ record { rule = rule.E05; place = place } = ap (λ z. record { rule = z; place = refusal.place }) h.0 ∙ ap (λ z. record { rule = rule.E05; place = z }) same in
