@@ -87,8 +87,10 @@ abbrev pub fields_if : Option Binding → Outcome → Tried Thunks
 fields_if (Some (Constructs d place)) (datum tag fields) = if nat_eq tag place then taken fields else passed_over
 fields_if _ _ = stuck
 
+-- the fields of a tuple, which has place 0
 abbrev pub fields_of : Outcome → Tried Thunks
-fields_of (datum tag fields) = taken fields
+fields_of (datum zero fields) = taken fields
+fields_of (datum (suc tag) fields) = passed_over
 fields_of _ = stuck
 
 -- == One step: what a task gives, over what the tasks on its way give ==
