@@ -3,3 +3,4 @@ pub mod Grows
 pub mod Steps
 pub mod Traces
 pub mod Lasting
+pub mod Lengths

@@ -14,7 +14,8 @@ use Rattle.rw_tree.specs.Trees.{Expression, variable, constructor, application, 
 use Rattle.rw_tree.specs.Trees.{Alternative, alternative, Alternatives, no_alternatives, more_alternatives, alternative_parts, RightSide, plain_side, guarded_side, guarded_body, GuardedBodies, no_bodies, more_bodies}
 use Rattle.rw_tree.specs.Trees.{local_signature, local_function, local_pattern, LocalBindings, no_bindings, more_bindings, bind_statement, let_statement, run_statement, Statements, no_statements, more_statements}
 use Rattle.rw_tree.specs.Declarations.{PlainConstructor, Declaration, data_declaration, function_declaration}
-use Rattle.rw_meaning.specs.Options.{◌>>=◌, Tried, stuck, passed_over, taken, and_try, or_try, tried, what_is_taken}
+use Rattle.rw_core.specs.Options.{◌>>=◌}
+use Rattle.rw_meaning.specs.Options.{Tried, stuck, passed_over, taken, and_try, or_try, tried, what_is_taken}
 use Rattle.rw_meaning.specs.Results.{Outcome, datum, waiting_for_more, action, Function, of_clauses, of_lambda, of_constructor, of_operation}
 use Rattle.rw_meaning.specs.Results.{Thunk, kept, kept_side, kept_name, kept_call, known, Thunks, nothing, and_then, joined, how_many, thunk_at, first_thunks, later_thunks, arguments_of}
 

@@ -1,11 +1,5 @@
--- What may have no result, and what may be passed over.
+-- What is tried: it may have no result, and it may be passed over.
 use Rattle.std.specs.Prelude.{Option, Some, None}
-
--- go on with the result, if there is one
-infixl 10 ◌>>=◌
-abbrev pub ◌>>=◌ : {A B : Type 0} → Option A → (A → Option B) → Option B
-None >>= f = None
-(Some x) >>= f = f x
 
 -- a row that is tried: it has no result, or it is passed over, or this is what is taken
 pub data Tried (A : Type 0) : Type 0 where

@@ -8,33 +8,31 @@ use Rattle.rw_scope_rules.specs.declared.binding.Bound.{Bound}
 use Rattle.rw_scope_rules.specs.Names.{is_among}
 use Rattle.rw_tree.specs.Trees.{Expression, variable, application, Expressions, no_expressions, more_expressions, Alternative, alternative, plain_side, LocalBindings}
 use Rattle.rw_tree.specs.Declarations.{Declaration, function_declaration}
+use Rattle.rw_core.specs.Systems.{System, leaf, side_by_side, fed_back}
 
--- a system of expressions: a device by itself; two side by side; one whose output is seen through the first expression, and whose input is what the
--- second makes of that output and an outer input
-pub data System : Type 0 where
-  leaf : Expression Bound → System
-  side_by_side : System → System → System
-  fed_back : Expression Bound → Expression Bound → System → System
+-- a system of expressions
+abbrev pub SourceSystem : Type 0
+SourceSystem = System (Expression Bound) (Expression Bound)
 
 -- what a name makes of these arguments, each with its own system; `whole` is the application
-abbrev pub operated : Expression Bound → Option Binding → List (Expression Bound × System) → System
+abbrev pub operated : Expression Bound → Option Binding → List (Expression Bound × SourceSystem) → SourceSystem
 operated whole (Some (Operates Par)) (d ∷ e ∷ []) = side_by_side d.1 e.1
 operated whole (Some (Operates Refold)) (f ∷ g ∷ d ∷ []) = fed_back f.0 g.0 d.1
 operated whole _ arguments = leaf whole
 
 -- the system of an expression: `whole` is it, and `e` what is left of it when these arguments are taken off
 abbrev mutual
-  pub system_with : Expression Bound → Expression Bound → List (Expression Bound × System) → System
+  pub system_with : Expression Bound → Expression Bound → List (Expression Bound × SourceSystem) → SourceSystem
   system_with whole (application a head parts) arguments = system_with whole head (with_systems parts arguments)
   system_with whole (variable a x) arguments = operated whole a.bound arguments
   system_with whole _ arguments = leaf whole
 
   -- arguments, each with its own system, before others
-  pub with_systems : Expressions Bound → List (Expression Bound × System) → List (Expression Bound × System)
+  pub with_systems : Expressions Bound → List (Expression Bound × SourceSystem) → List (Expression Bound × SourceSystem)
   with_systems no_expressions others = others
   with_systems (more_expressions e es) others = (e, system_with e e []) ∷ with_systems es others
 
-abbrev pub system_of : Expression Bound → System
+abbrev pub system_of : Expression Bound → SourceSystem
 system_of e = system_with e e []
 
 -- the body of `start`: one clause without patterns and guards; with what is bound after its `where`

@@ -8,4 +8,4 @@
 
 mod laws;
 
-pub use laws::{one_list_is_denoted, outputs_last, results_last};
+pub use laws::{one_list_is_denoted, one_more_output_than_inputs, outputs_last, results_last};

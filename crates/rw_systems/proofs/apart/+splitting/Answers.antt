@@ -4,7 +4,8 @@ use Rattle.std.proofs.lemmas.Grind.{common_steps}
 use Rattle.rw_tree.specs.Views.{itself}
 use Rattle.rw_tree.specs.Trees.{application, expression_parts}
 use Rattle.rw_tree.proofs.Plains.{expression-Apply}
-use Rattle.rw_meaning.specs.Systems.{leaf, system_with, with_systems, system_of}
+use Rattle.rw_core.specs.Systems.{leaf}
+use Rattle.rw_meaning.specs.Systems.{system_with, with_systems, system_of}
 use Rattle.rw_systems.specs.Shown.{shown, seen, argument}
 use Rattle.rw_systems.proofs.Heads.{leaf_alone, systems_before, shown_leaf}
 use Rattle.rw_systems.proofs.apart.+splitting.Goals as goal
