@@ -1,5 +1,5 @@
 -- What follows from what holds from some budget on.
-use Rattle.std.proofs.Common.{◌≡◌, ℕ, zero, suc, ◌+◌, ◌≤◌, Option, Some, None, refl, arith}
+use Rattle.std.proofs.Common.{◌≡◌, ℕ, zero, suc, ◌+◌, ◌≤◌, Option, Some, None, refl, subst, arith}
 use Rattle.std.specs.Option.{IfSome}
 use Rattle.rw_core.specs.Options.{◌>>=◌}
 use Rattle.rw_core.specs.Eventually.{Eventually, Reaches, GrowsInTime}
@@ -40,6 +40,11 @@ if_on P Q (Some a) f h k = k a h
 pub if_map : {A : Type 0} (P Q : A → Type 0) (x : Option A) → ((a : A) → P a → Q a) → IfSome x P → IfSome x Q
 if_map P Q None k h = tt
 if_map P Q (Some a) k h = k a h
+
+-- what the first gives is reached
+pub if_reached : {A : Type 0} (x : Option A) (within : ℕ → Option A) (a : A) → GrowsInTime x within → x ≡ Some a → Reaches within a
+if_reached None within a h e = absurd (cc)
+if_reached (Some b) within a h e = let k : b ≡ a = cc in subst (Reaches within) k h
 
 then_it : {A B : Type 0} (x : Option A) (f : A → Option B) (a : A) (b : B) → x ≡ Some a → f a ≡ Some b → (x >>= f) ≡ Some b
 then_it x f a b e h = rw e h

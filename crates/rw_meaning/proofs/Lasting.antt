@@ -1,9 +1,9 @@
 -- The outputs of a program within a budget are those within every greater one, and so it denotes one list at most.
-use Rattle.std.proofs.Common.{◌≡◌, ℕ, zero, suc, ◌+◌, ◌-◌, List, [], ◌∷◌, ◌++◌, length, Option, Some, None, refl, subst, ◌∙◌, arith}
+use Rattle.std.proofs.Common.{◌≡◌, ℕ, zero, suc, ◌+◌, ◌-◌, List, length, Option, Some, None, refl, subst, ◌∙◌, arith}
 use Rattle.rw_scope_rules.specs.declared.binding.Bound.{Bound}
 use Rattle.rw_tree.specs.Declarations.{Declaration}
 use Rattle.rw_core.specs.Values.{Val}
-use Rattle.rw_core.specs.Options.{each, Grows}
+use Rattle.rw_core.specs.Options.{Grows}
 use Rattle.rw_core.specs.Eventually.{Reaches}
 use Rattle.rw_core.specs.Traces.{Trace, shown}
 use Rattle.rw_core.specs.Systems.{system_outputs}

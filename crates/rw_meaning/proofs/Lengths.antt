@@ -1,12 +1,11 @@
 -- A program shows one output more than it was given inputs.
-use Rattle.std.proofs.Common.{◌≡◌, ℕ, zero, suc, List, [], length, Option, Some, None, refl, subst, arith}
+use Rattle.std.proofs.Common.{◌≡◌, ℕ, zero, suc, List, length, Option, Some, subst, arith}
 use Rattle.rw_scope_rules.specs.declared.binding.Operation.TheVariants.{Return, Bind, Then, Get, Put, Lift, Signal, Extrude, Par, Refold}
 use Rattle.rw_scope_rules.specs.declared.binding.Bound.{Bound}
 use Rattle.rw_tree.specs.Declarations.{Declaration}
 use Rattle.rw_core.specs.Values.{Val}
 use Rattle.rw_core.specs.Options.{◌>>=◌, each}
-use Rattle.rw_core.specs.Traces.{End, Trace, silent, signalled, and_on, Counts}
-use Rattle.rw_core.specs.Systems.{system_outputs}
+use Rattle.rw_core.specs.Traces.{Trace, silent, signalled, and_on, Counts}
 use Rattle.rw_core.proofs.Options.{bind_some, length-each}
 use Rattle.rw_core.proofs.Counts.{counts_silent, counts_signalled, counts_and_on, counts_without_state, length-shown}
 use Rattle.rw_core.proofs.Systems.{each_leaf, length-system_outputs}

@@ -1,5 +1,5 @@
 -- What actions do keeps its results where what is done on the way keeps its own.
-use Rattle.std.proofs.Common.{ℕ, zero, suc, List, [], ◌∷◌, Option, refl}
+use Rattle.std.proofs.Common.{ℕ, zero, suc, List, Option, refl}
 use Rattle.rw_scope_rules.specs.declared.binding.Operation.TheVariants.{Return, Bind, Then, Get, Put, Lift, Signal, Extrude, Par, Refold}
 use Rattle.rw_scope_rules.specs.declared.binding.Bound.{Bound}
 use Rattle.rw_tree.specs.Declarations.{Declaration}

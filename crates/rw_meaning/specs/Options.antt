@@ -29,3 +29,9 @@ abbrev pub what_is_taken : {A : Type 0} → Tried A → Option A
 what_is_taken stuck = None
 what_is_taken passed_over = None
 what_is_taken (taken x) = Some x
+
+-- of what is tried: P where it is passed over, and Q of what is taken
+abbrev pub Whichever : {A : Type 0} → Tried A → Type 0 → (A → Type 0) → Type 0
+Whichever stuck P Q = Unit {0}
+Whichever passed_over P Q = P
+Whichever (taken x) P Q = Q x

@@ -6,6 +6,11 @@
 //! Begin with `specs/Results.antt`, then `specs/Evaluation.antt`, `specs/Trace.antt` and `specs/Outputs.antt`.
 #![tactic(auto)]
 
+mod given;
 mod laws;
 
+pub use given::{
+    actions_step, application_in_parts, devices_show, evaluation_steps,
+    realised_systems_are_denoted, values_stand,
+};
 pub use laws::{one_list_is_denoted, one_more_output_than_inputs, outputs_last, results_last};
