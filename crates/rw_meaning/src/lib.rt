@@ -3,7 +3,8 @@
 //!
 //! Nothing here runs: no code evaluates the tree of a source. The compiler's stages are to be proved against these
 //! definitions, which crates above stand on.
-//! Begin with `specs/Results.antt`, then `specs/Evaluation.antt`, `specs/Trace.antt` and `specs/Outputs.antt`.
+//! Begin with `specs/Results.antt`, then `specs/Evaluation.antt`, `specs/Trace.antt` and `specs/Outputs.antt`;
+//! later laws are stated on the words of `specs/Steps.antt`.
 #![tactic(auto)]
 
 mod given;
