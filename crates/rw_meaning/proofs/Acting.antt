@@ -13,7 +13,7 @@ use Rattle.rw_core.proofs.Systems.{system_follows_in_time}
 use Rattle.rw_meaning.specs.Results.{Outcome, datum, waiting_for_more, action, Thunk, known, Thunks, nothing, and_then, held, held_fields}
 use Rattle.rw_meaning.specs.Evaluation.{force, result_within, inside_names}
 use Rattle.rw_meaning.specs.Trace.{acted, traced, act_within, trace_within}
-use Rattle.rw_meaning.specs.Systems.{Body, system_of, start_of}
+use Rattle.rw_meaning.specs.Systems.{binding_of, Body, system_of, start_of}
 use Rattle.rw_meaning.specs.Outputs.{fields_as_data, as_data, data_within, device_outputs, reading_in, Denotes}
 use Rattle.rw_meaning.specs.Steps.{Gives, Stands, FieldsStand, EachStands, Acts, ActsAs, Traces, TracesAs, Shows, IsRealised}
 use Rattle.rw_meaning.proofs.Applying.{gives_step, gives_within}
@@ -142,13 +142,13 @@ module _ (program : List (Declaration Bound)) where
 
   -- == Programs ==
 
-  started : {B : Type 0} (x : Option Body) (f : Body → Option B) (start : Body) (b : B) → x ≡ Some start → f start ≡ Some b → (x >>= f) ≡ Some b
+  started : {B : Type 0} (x : Option (Body Bound)) (f : Body Bound → Option B) (start : Body Bound) (b : B) → x ≡ Some start → f start ≡ Some b → (x >>= f) ≡ Some b
   started x f start b e h = rw e h
 
-  pub realised : {L F : Type 0} (first : Reading L F) (s : System L F) (body : Body) → start_of program ≡ Some body → IsRealised program first (inside_names nothing body.wheres) s (system_of body.expression)
+  pub realised : {L F : Type 0} (first : Reading L F) (s : System L F) (body : Body Bound) → start_of program ≡ Some body → IsRealised program first (inside_names nothing body.wheres) s (system_of binding_of body.expression)
       → (inputs outputs : List Val) → system_outputs first s inputs ≡ Some outputs → Denotes program inputs outputs
   realised first s body found h inputs outputs e =
       let env = inside_names nothing body.wheres in
-      let g = if_reached (system_outputs first s inputs) (λ n. system_outputs (reading_in program n env) (system_of body.expression) inputs) outputs
-      (system_follows_in_time first (λ n. reading_in program n env) s (system_of body.expression) h inputs) e in
+      let g = if_reached (system_outputs first s inputs) (λ n. system_outputs (reading_in program n env) (system_of binding_of body.expression) inputs) outputs
+      (system_follows_in_time first (λ n. reading_in program n env) s (system_of binding_of body.expression) h inputs) e in
       mapped (λ n i. started (start_of program) _ body outputs found i) g

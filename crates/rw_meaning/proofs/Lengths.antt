@@ -12,7 +12,7 @@ use Rattle.rw_core.proofs.Systems.{each_leaf, length-system_outputs}
 use Rattle.rw_meaning.specs.Results.{Outcome, datum, waiting_for_more, action, Thunk, kept, kept_call, known, Thunks, nothing, and_then, held}
 use Rattle.rw_meaning.specs.Evaluation.{force, result_within, inside_names}
 use Rattle.rw_meaning.specs.Trace.{other_states, traced, act_within, trace_within}
-use Rattle.rw_meaning.specs.Systems.{system_of, start_of}
+use Rattle.rw_meaning.specs.Systems.{binding_of, system_of, start_of}
 use Rattle.rw_meaning.specs.Outputs.{data_within, device_outputs, reading_in, outputs_within, Denotes}
 
 -- a trace over these inputs counts its outputs
@@ -80,7 +80,7 @@ module _ (program : List (Declaration Bound)) where
     length-outputs_within inputs outputs e =
         let body = bind_some (start_of program) _ outputs e in
         let env = inside_names nothing body.0.wheres in
-        let s = system_of body.0.expression in
+        let s = system_of binding_of body.0.expression in
         length-system_outputs (reading_in program budget env) s (each_leaf _ (λ l is os h. length-device_outputs (kept env l) is os h) s) inputs outputs body.2
 
 -- what a program denotes has one output more than inputs

@@ -11,7 +11,7 @@ use Rattle.rw_core.specs.Systems.{Reading, system_outputs}
 use Rattle.rw_meaning.specs.Results.{Outcome, datum, Thunk, kept, kept_call, known, Thunks, nothing, and_then, held}
 use Rattle.rw_meaning.specs.Evaluation.{force, result_within, inside_names}
 use Rattle.rw_meaning.specs.Trace.{trace_within}
-use Rattle.rw_meaning.specs.Systems.{system_of, start_of}
+use Rattle.rw_meaning.specs.Systems.{binding_of, system_of, start_of}
 
 -- == A value with all that is in it ==
 
@@ -57,7 +57,7 @@ module _ (program : List (Declaration Bound)) (budget : ℕ) where
   abbrev pub outputs_within : List Val → Option (List Val)
   outputs_within inputs = do
     body ← start_of program
-    system_outputs (reading_in (inside_names nothing body.wheres)) (system_of body.expression) inputs
+    system_outputs (reading_in (inside_names nothing body.wheres)) (system_of binding_of body.expression) inputs
 
 -- == What a program denotes ==
 

@@ -9,7 +9,7 @@ ghost use Rattle.rw_core.specs.Traces.{Trace, shown};
 ghost use Rattle.rw_core.specs.Systems.{System, Reading, system_outputs};
 ghost use Rattle.rw_meaning.specs.Results.{Outcome, Thunk, Thunks, nothing, joined, known, held};
 ghost use Rattle.rw_meaning.specs.Evaluation.{Task, force, apply, result_within, inside_names};
-ghost use Rattle.rw_meaning.specs.Systems.{Body, system_of, start_of};
+ghost use Rattle.rw_meaning.specs.Systems.{binding_of, Body, system_of, start_of};
 ghost use Rattle.rw_meaning.specs.Outputs.{data_within, Denotes};
 ghost use Rattle.rw_meaning.specs.Steps.{Gives, StepGives, Stands, EachStands, Acts, ActsAs, Traces, TracesAs, Shows, IsRealised};
 
@@ -51,5 +51,5 @@ pub fn devices_show()
 
 /// A program denotes what some other system gives that its own realises, leaf by leaf and function by function.
 pub fn realised_systems_are_denoted<L, F>()
-    ensures { (program : List (Declaration Bound)) (first : Reading L F) (s : System L F) (body : Body) → start_of program ≡ Some body → IsRealised program first (inside_names nothing body.wheres) s (system_of body.expression) → (inputs outputs : List Val) → system_outputs first s inputs ≡ Some outputs → Denotes program inputs outputs }
+    ensures { (program : List (Declaration Bound)) (first : Reading L F) (s : System L F) (body : Body Bound) → start_of program ≡ Some body → IsRealised program first (inside_names nothing body.wheres) s (system_of binding_of body.expression) → (inputs outputs : List Val) → system_outputs first s inputs ≡ Some outputs → Denotes program inputs outputs }
 {}

@@ -11,7 +11,7 @@ use Rattle.rw_tree.specs.Declarations.{Declaration, PlainProgram}
 use Rattle.rw_scope_rules.specs.Names.{at_if}
 use Rattle.rw_scope_rules.specs.Nodes.{Node, expression_node, expression_nodes, group_nodes, declaration_nodes}
 use Rattle.rw_core.specs.Systems.{leaf, side_by_side, fed_back}
-use Rattle.rw_meaning.specs.Systems.{SourceSystem, system_of, Body, body_of}
+use Rattle.rw_meaning.specs.Systems.{binding_of, SourceSystem, system_of, Body, body_of}
 use Rattle.rw_start.specs.Start.{Start, start_from}
 
 -- == Systems ==
@@ -86,9 +86,9 @@ misplaced_with decls n system wheres =
     ++ map beginning (drop 64 (leaves system))
 
 -- where there is no body of `start`, there is no system
-abbrev pub misplaced_by : List (Declaration Bound) → ℕ → Option Body → List Place
+abbrev pub misplaced_by : List (Declaration Bound) → ℕ → Option (Body Bound) → List Place
 misplaced_by decls n None = strays None (flat_map declaration_nodes decls)
-misplaced_by decls n (Some body) = misplaced_with decls n (system_of body.expression) body.wheres
+misplaced_by decls n (Some body) = misplaced_with decls n (system_of binding_of body.expression) body.wheres
 
 abbrev pub misplaced_from : List (Declaration Bound) → Option Start → List Place
 misplaced_from decls None = strays None (flat_map declaration_nodes decls)

@@ -29,7 +29,7 @@ abbrev pub argument : Argument → Expression Bound × SourceSystem
 argument a = (seen a.expression.now, shown a.parts)
 
 -- the right side of a body, if there is one
-abbrev pub right_side_of : Option Body → Option (Expression Bound)
+abbrev pub right_side_of : Option (Body Bound) → Option (Expression Bound)
 right_side_of None = None
 right_side_of (Some body) = Some body.expression
 
