@@ -1,32 +1,20 @@
 -- Whatever has a result keeps it: what this means of options and of rows that are tried.
 use Rattle.std.proofs.Common.{◌≡◌, zero, suc, Bool, true, false, if◌then◌else◌, Option, Some, None, refl}
-use Rattle.rw_meaning.specs.Options.{◌>>=◌, Tried, stuck, passed_over, taken, and_try, or_try, tried, what_is_taken}
+use Rattle.rw_core.specs.Options.{Grows}
+use Rattle.rw_meaning.specs.Options.{Tried, stuck, passed_over, taken, and_try, or_try, tried, what_is_taken}
 use Rattle.rw_meaning.specs.Results.{Outcome, datum, waiting_for_more, action}
 use Rattle.rw_meaning.specs.Evaluation.{if_true}
 
--- a result stays what it is
-abbrev pub Grows : {A : Type 0} → Option A → Option A → Type 0
-Grows None later = Unit {0}
-Grows (Some x) later = later ≡ Some x
-
--- so does a row that isn't stuck
+-- a row that isn't stuck stays what it is
 abbrev pub Keeps : {A : Type 0} → Tried A → Tried A → Type 0
 Keeps stuck later = Unit {0}
 Keeps passed_over later = later ≡ passed_over
 Keeps (taken x) later = later ≡ taken x
 
-pub grows_same : {A : Type 0} (x : Option A) → Grows x x
-grows_same None = tt
-grows_same (Some x) = refl
-
 pub keeps_same : {A : Type 0} (x : Tried A) → Keeps x x
 keeps_same stuck = tt
 keeps_same passed_over = refl
 keeps_same (taken x) = refl
-
-pub grows_on : {A B : Type 0} (x later : Option A) (f g : A → Option B) → Grows x later → ((a : A) → Grows (f a) (g a)) → Grows (x >>= f) (later >>= g)
-grows_on None later f g h k = tt
-grows_on (Some x) later f g h k = rw h (k x)
 
 pub keeps_on : {A B : Type 0} (x later : Tried A) (f g : A → Tried B) → Keeps x later → ((a : A) → Keeps (f a) (g a)) → Keeps (and_try x f) (and_try later g)
 keeps_on stuck later f g h k = tt

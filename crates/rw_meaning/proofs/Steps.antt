@@ -12,7 +12,9 @@ use Rattle.rw_tree.specs.Declarations.{Declaration, import_declaration, data_dec
 use Rattle.rw_meaning.specs.Results.{Outcome, datum, waiting_for_more, action, Function, of_clauses, of_lambda, of_constructor, of_operation}
 use Rattle.rw_meaning.specs.Results.{Thunk, kept, kept_side, kept_name, kept_call, known, Thunks, nothing, and_then, joined, how_many, thunk_at, first_thunks}
 use Rattle.rw_meaning.specs.Evaluation.{Task, evaluate, force, apply, inside_names, patterns_before, arity, declaration_at, fields_if, fields_of, match, match_parts, match_row, guards, side, row, rows, clauses_there, declared_there, named, bound_there, statements, evaluated, name_in, forced, entered, applied, step, result_within}
-use Rattle.rw_meaning.proofs.Grows.{Grows, Keeps, grows_same, keeps_same, grows_on, keeps_on, keeps_or, keeps_tried, grows_taken, grows_if, keeps_truth, grows_truth}
+use Rattle.rw_core.specs.Options.{Grows}
+use Rattle.rw_core.proofs.Options.{grows_same, grows_on}
+use Rattle.rw_meaning.proofs.Grows.{Keeps, keeps_same, keeps_on, keeps_or, keeps_tried, grows_taken, grows_if, keeps_truth, grows_truth}
 
 module _ (program : List (Declaration Bound)) (low high : Task → Option Outcome) (grows : (task : Task) → Grows (low task) (high task)) where
   mutual

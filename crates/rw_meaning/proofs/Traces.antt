@@ -1,13 +1,15 @@
 -- What actions do keeps its results where what is done on the way keeps its own.
-use Rattle.std.proofs.Common.{ℕ, zero, suc, List, [], ◌∷◌, Option, refl}
+use Rattle.std.proofs.Common.{ℕ, zero, suc, List, Option, refl}
 use Rattle.rw_scope_rules.specs.declared.binding.Operation.TheVariants.{Return, Bind, Then, Get, Put, Lift, Signal, Extrude, Par, Refold}
 use Rattle.rw_scope_rules.specs.declared.binding.Bound.{Bound}
 use Rattle.rw_tree.specs.Declarations.{Declaration}
 use Rattle.rw_core.specs.Values.{Val}
 use Rattle.rw_meaning.specs.Results.{Outcome, datum, waiting_for_more, action, Thunk, kept_call, Thunks, nothing, and_then}
 use Rattle.rw_meaning.specs.Evaluation.{force}
-use Rattle.rw_meaning.specs.Trace.{End, waits, finished, Trace, acted, and_on, without_state, traced, act_within, trace_within}
-use Rattle.rw_meaning.proofs.Grows.{Grows, grows_same, grows_on}
+use Rattle.rw_core.specs.Options.{Grows}
+use Rattle.rw_core.specs.Traces.{End, waits, finished, Trace, and_on, without_state}
+use Rattle.rw_core.proofs.Options.{grows_same, grows_on}
+use Rattle.rw_meaning.specs.Trace.{other_states, acted, traced, act_within, trace_within}
 use Rattle.rw_meaning.proofs.Steps.{result_grows}
 
 module _ (again later : Thunk → Thunks → Option (Thunk × Thunks)) (grows : (m : Thunk) (states : Thunks) → Grows (again m states) (later m states)) where
@@ -41,19 +43,18 @@ module _ (again later : Thunk → Thunks → Option (Thunk × Thunks)) (grows : 
   acted_grows (action Par ts) states = tt
   acted_grows (action Refold ts) states = tt
 
-onward_grows : (outputs : List Thunk) (end : End) (next other : Thunk → Thunks → List Val → Option Trace) → ((v : Thunk) (states : Thunks) (inputs : List Val) → Grows (next v states inputs) (other v states inputs))
+onward_grows : (outputs : List Thunk) (end : End Thunk Thunks) (next other : Thunk → Thunks → List Val → Option (Trace Thunk Thunks)) → ((v : Thunk) (states : Thunks) (inputs : List Val) → Grows (next v states inputs) (other v states inputs))
     → Grows (and_on outputs end next) (and_on outputs end other)
 onward_grows outputs waits next other h = refl
 onward_grows outputs (finished v states inputs) next other h = grows_on _ _ _ _ (h v states inputs) (λ t. refl)
 
 module _ (acting acting_later : Thunk → Thunks → Option (Thunk × Thunks)) (acts : (m : Thunk) (states : Thunks) → Grows (acting m states) (acting_later m states))
-    (again later : Thunk → Thunks → List Val → Option Trace) (grows : (m : Thunk) (states : Thunks) (inputs : List Val) → Grows (again m states inputs) (later m states inputs)) where
+    (again later : Thunk → Thunks → List Val → Option (Trace Thunk Thunks)) (grows : (m : Thunk) (states : Thunks) (inputs : List Val) → Grows (again m states inputs) (later m states inputs)) where
   pub traced_grows : (r : Outcome) (states : Thunks) (inputs : List Val) → Grows (traced acting again r states inputs) (traced acting_later later r states inputs)
   traced_grows (datum place fields) states inputs = tt
   traced_grows (waiting_for_more f ts) states inputs = tt
   traced_grows (action Signal nothing) states inputs = tt
-  traced_grows (action Signal (and_then v nothing)) states [] = refl
-  traced_grows (action Signal (and_then v nothing)) states (i ∷ inputs) = refl
+  traced_grows (action Signal (and_then v nothing)) states inputs = refl
   traced_grows (action Signal (and_then v (and_then w ts))) states inputs = tt
   traced_grows (action Bind nothing) states inputs = tt
   traced_grows (action Bind (and_then m nothing)) states inputs = tt
@@ -72,7 +73,7 @@ module _ (acting acting_later : Thunk → Thunks → Option (Thunk × Thunks)) (
   traced_grows (action Lift (and_then m (and_then w ts))) states inputs = tt
   traced_grows (action Extrude nothing) states inputs = tt
   traced_grows (action Extrude (and_then d nothing)) states inputs = tt
-  traced_grows (action Extrude (and_then d (and_then s nothing))) states inputs = grows_on _ _ _ _ (grows d (and_then s states) inputs) (λ t. grows_same (without_state t.outputs t.end))
+  traced_grows (action Extrude (and_then d (and_then s nothing))) states inputs = grows_on _ _ _ _ (grows d (and_then s states) inputs) (λ t. grows_same (without_state other_states t.outputs t.end))
   traced_grows (action Extrude (and_then d (and_then s (and_then x ts)))) states inputs = tt
   traced_grows (action Get ts) states inputs = tt
   traced_grows (action Put ts) states inputs = tt

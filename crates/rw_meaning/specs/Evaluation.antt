@@ -14,7 +14,8 @@ use Rattle.rw_tree.specs.Trees.{Expression, variable, constructor, application, 
 use Rattle.rw_tree.specs.Trees.{Alternative, alternative, Alternatives, no_alternatives, more_alternatives, alternative_parts, RightSide, plain_side, guarded_side, guarded_body, GuardedBodies, no_bodies, more_bodies}
 use Rattle.rw_tree.specs.Trees.{local_signature, local_function, local_pattern, LocalBindings, no_bindings, more_bindings, bind_statement, let_statement, run_statement, Statements, no_statements, more_statements}
 use Rattle.rw_tree.specs.Declarations.{PlainConstructor, Declaration, data_declaration, function_declaration}
-use Rattle.rw_meaning.specs.Options.{◌>>=◌, Tried, stuck, passed_over, taken, and_try, or_try, tried, what_is_taken}
+use Rattle.rw_core.specs.Options.{◌>>=◌}
+use Rattle.rw_meaning.specs.Options.{Tried, stuck, passed_over, taken, and_try, or_try, tried, what_is_taken}
 use Rattle.rw_meaning.specs.Results.{Outcome, datum, waiting_for_more, action, Function, of_clauses, of_lambda, of_constructor, of_operation}
 use Rattle.rw_meaning.specs.Results.{Thunk, kept, kept_side, kept_name, kept_call, known, Thunks, nothing, and_then, joined, how_many, thunk_at, first_thunks, later_thunks, arguments_of}
 
@@ -87,8 +88,10 @@ abbrev pub fields_if : Option Binding → Outcome → Tried Thunks
 fields_if (Some (Constructs d place)) (datum tag fields) = if nat_eq tag place then taken fields else passed_over
 fields_if _ _ = stuck
 
+-- the fields of a tuple, which has place 0
 abbrev pub fields_of : Outcome → Tried Thunks
-fields_of (datum tag fields) = taken fields
+fields_of (datum zero fields) = taken fields
+fields_of (datum (suc tag) fields) = passed_over
 fields_of _ = stuck
 
 -- == One step: what a task gives, over what the tasks on its way give ==

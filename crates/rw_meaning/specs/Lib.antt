@@ -5,3 +5,4 @@ pub mod Evaluation
 pub mod Trace
 pub mod Systems
 pub mod Outputs
+pub mod Steps

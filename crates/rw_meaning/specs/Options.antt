@@ -1,11 +1,5 @@
--- What may have no result, and what may be passed over.
+-- What is tried: it may have no result, and it may be passed over.
 use Rattle.std.specs.Prelude.{Option, Some, None}
-
--- go on with the result, if there is one
-infixl 10 ◌>>=◌
-abbrev pub ◌>>=◌ : {A B : Type 0} → Option A → (A → Option B) → Option B
-None >>= f = None
-(Some x) >>= f = f x
 
 -- a row that is tried: it has no result, or it is passed over, or this is what is taken
 pub data Tried (A : Type 0) : Type 0 where
@@ -35,3 +29,9 @@ abbrev pub what_is_taken : {A : Type 0} → Tried A → Option A
 what_is_taken stuck = None
 what_is_taken passed_over = None
 what_is_taken (taken x) = Some x
+
+-- of what is tried: P where it is passed over, and Q of what is taken
+abbrev pub Whichever : {A : Type 0} → Tried A → Type 0 → (A → Type 0) → Type 0
+Whichever stuck P Q = Unit {0}
+Whichever passed_over P Q = P
+Whichever (taken x) P Q = Q x

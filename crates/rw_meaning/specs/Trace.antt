@@ -2,12 +2,13 @@
 -- reactive resumptions over layers of state over the identity.
 --
 -- Each state action, trace or evaluation on the way has a budget that is one less.
-use Rattle.std.specs.Prelude.{ℕ, zero, suc, List, [], ◌∷◌, ◌++◌, Option, Some, None}
+use Rattle.std.specs.Prelude.{ℕ, zero, suc, List, Option, Some, None}
 use Rattle.rw_scope_rules.specs.declared.binding.Operation.TheVariants.{Return, Bind, Then, Get, Put, Lift, Signal, Extrude}
 use Rattle.rw_scope_rules.specs.declared.binding.Bound.{Bound}
 use Rattle.rw_tree.specs.Declarations.{Declaration}
 use Rattle.rw_core.specs.Values.{Val}
-use Rattle.rw_meaning.specs.Options.{◌>>=◌}
+use Rattle.rw_core.specs.Traces.{Trace, silent, signalled, and_on, without_state}
+use Rattle.rw_core.specs.Options.{◌>>=◌}
 use Rattle.rw_meaning.specs.Results.{Outcome, datum, action, Thunk, kept_call, known, Thunks, nothing, and_then, held}
 use Rattle.rw_meaning.specs.Evaluation.{force, result_within}
 
@@ -21,41 +22,20 @@ acted again (action Put (and_then new nothing)) (and_then s states) = Some (know
 acted again (action Lift (and_then m nothing)) (and_then s states) = do p ← again m states; Some (p.0, and_then s p.1)
 acted again _ _ = None
 
--- how a trace ends: it waits for an input, or it is finished with a value, the states after it, and the inputs that are left
-pub data End : Type 0 where
-  waits : End
-  finished : Thunk → Thunks → List Val → End
-
--- the outputs one after the other, and the end
-pub record Trace : Type 0 where
-  pub outputs : List Thunk
-  pub end : End
-
--- a finished trace goes on with another; one that waits is all there is
-abbrev pub and_on : List Thunk → End → (Thunk → Thunks → List Val → Option Trace) → Option Trace
-and_on outputs waits next = Some (record { outputs = outputs; end = waits })
-and_on outputs (finished v states inputs) next = do t ← next v states inputs; Some (record { outputs = outputs ++ t.outputs; end = t.end })
-
--- the state of an `extrude` is dropped at its end
-abbrev pub without_state : List Thunk → End → Option Trace
-without_state outputs waits = Some (record { outputs = outputs; end = waits })
-without_state outputs (finished v (and_then s states) inputs) = Some (record { outputs = outputs; end = finished v states inputs })
-without_state outputs (finished v nothing inputs) = None
-
--- an action that shows nothing
-abbrev pub silent : Thunk → Thunks → List Val → Trace
-silent v states inputs = record { outputs = []; end = finished v states inputs }
+-- all states but the first
+abbrev pub other_states : Thunks → Option Thunks
+other_states nothing = None
+other_states (and_then s states) = Some states
 
 -- the trace of an action; `acting` does the state actions on the way, and `again` gives the traces
-abbrev pub traced : (Thunk → Thunks → Option (Thunk × Thunks)) → (Thunk → Thunks → List Val → Option Trace) → Outcome → Thunks → List Val → Option Trace
-traced acting again (action Signal (and_then v nothing)) states [] = Some (record { outputs = v ∷ []; end = waits })
-traced acting again (action Signal (and_then v nothing)) states (i ∷ inputs) = Some (record { outputs = v ∷ []; end = finished (known (held i)) states inputs })
+abbrev pub traced : (Thunk → Thunks → Option (Thunk × Thunks)) → (Thunk → Thunks → List Val → Option (Trace Thunk Thunks)) → Outcome → Thunks → List Val → Option (Trace Thunk Thunks)
+traced acting again (action Signal (and_then v nothing)) states inputs = Some (signalled (λ i. known (held i)) v states inputs)
 traced acting again (action Bind (and_then m (and_then k nothing))) states inputs =
     do t ← again m states inputs; and_on t.outputs t.end (λ v. again (kept_call k (and_then v nothing)))
 traced acting again (action Then (and_then m (and_then k nothing))) states inputs = do t ← again m states inputs; and_on t.outputs t.end (λ v. again k)
 traced acting again (action Return (and_then v nothing)) states inputs = Some (silent v states inputs)
 traced acting again (action Lift (and_then m nothing)) states inputs = do p ← acting m states; Some (silent p.0 p.1 inputs)
-traced acting again (action Extrude (and_then d (and_then s nothing))) states inputs = do t ← again d (and_then s states) inputs; without_state t.outputs t.end
+traced acting again (action Extrude (and_then d (and_then s nothing))) states inputs = do t ← again d (and_then s states) inputs; without_state other_states t.outputs t.end
 traced acting again _ _ _ = None
 
 module _ (program : List (Declaration Bound)) where
@@ -65,6 +45,6 @@ module _ (program : List (Declaration Bound)) where
   act_within (suc budget) m states = do r ← result_within program budget (force m); acted (act_within budget) r states
 
   -- the trace of an action within a budget
-  unfoldable pub trace_within : ℕ → Thunk → Thunks → List Val → Option Trace
+  unfoldable pub trace_within : ℕ → Thunk → Thunks → List Val → Option (Trace Thunk Thunks)
   trace_within zero m states inputs = None
   trace_within (suc budget) m states inputs = do r ← result_within program budget (force m); traced (act_within budget) (trace_within budget) r states inputs

@@ -12,7 +12,8 @@ use Rattle.rw_tree.specs.Declarations.{PlainProgram}
 use Rattle.rw_scope_rules.specs.Names.{at_if, earliest}
 use Rattle.rw_scope_rules.specs.Nodes.{Node, expression_nodes, expressions_nodes}
 use Rattle.rw_scope_rules.specs.Verdict.{broken_first}
-use Rattle.rw_meaning.specs.Systems.{System, leaf, operated, system_with, with_systems, system_of}
+use Rattle.rw_core.specs.Systems.{leaf}
+use Rattle.rw_meaning.specs.Systems.{binding_of, SourceSystem, operated, system_with, with_systems, system_of}
 use Rattle.rw_start.specs.Positions.{inner_nodes, is_stray, misplaced, strays}
 use Rattle.rw_start.specs.Start.{improper_start}
 use Rattle.rw_base.specs.Answers.{IsJudged}
@@ -28,26 +29,26 @@ module _ (s : Option ℕ) where
   abbrev in_tree : Expression Bound → ℕ
   in_tree e = in_nodes (expression_nodes e)
 
-  abbrev in_system : System → ℕ
+  abbrev in_system : SourceSystem → ℕ
   in_system y = applications y + in_nodes (inner_nodes y)
 
   in_both : (ms ns : List (Node Bound)) → in_nodes (ms ++ ns) ≡ in_nodes ms + in_nodes ns
   in_both ms ns = ap length (parted s ms ns) ∙ length-append (strays s ms) (strays s ns)
 
   -- in arguments
-  abbrev in_arguments : List (Expression Bound × System) → ℕ
+  abbrev in_arguments : List (Expression Bound × SourceSystem) → ℕ
   in_arguments [] = 0
   in_arguments (v ∷ vs) = in_tree v.0 + in_arguments vs
 
   -- the law holds of each of these
-  abbrev Fit : List (Expression Bound × System) → Type 0
+  abbrev Fit : List (Expression Bound × SourceSystem) → Type 0
   Fit [] = Unit
   Fit (v ∷ vs) = (in_tree v.0 ≡ in_system v.1) × Fit vs
 
-  in_more : (es : Expressions Bound) (others : List (Expression Bound × System)) → in_arguments (with_systems es others) ≡ in_nodes (expressions_nodes es) + in_arguments others
+  in_more : (es : Expressions Bound) (others : List (Expression Bound × SourceSystem)) → in_arguments (with_systems binding_of es others) ≡ in_nodes (expressions_nodes es) + in_arguments others
   in_more no_expressions others = omega arith
   in_more (more_expressions e es) others =
-      let rest : in_arguments (with_systems es others) ≡ in_nodes (expressions_nodes es) + in_arguments others = in_more es others in
+      let rest : in_arguments (with_systems binding_of es others) ≡ in_nodes (expressions_nodes es) + in_arguments others = in_more es others in
       let both : in_nodes (expression_nodes e ++ expressions_nodes es) ≡ in_tree e + in_nodes (expressions_nodes es) = in_both (expression_nodes e) (expressions_nodes es) in
       omega (arith, rest, both)
 
@@ -56,7 +57,7 @@ module _ (s : Option ℕ) where
     alone = omega arith
 
     -- what a name that is bound to this makes of these arguments
-    by_name : (b : Option Binding) (p : Place) (vs : List (Expression Bound × System)) → Fit vs → in_tree whole ≡ length (at_if (is_stray s b) p) + in_arguments vs → in_tree whole ≡ in_system (operated whole b vs)
+    by_name : (b : Option Binding) (p : Place) (vs : List (Expression Bound × SourceSystem)) → Fit vs → in_tree whole ≡ length (at_if (is_stray s b) p) + in_arguments vs → in_tree whole ≡ in_system (operated whole b vs)
     by_name None p vs fit h = alone
     by_name (Some (Declared n)) p vs fit h = alone
     by_name (Some (Constructs n k)) p vs fit h = alone
@@ -91,12 +92,12 @@ module _ (s : Option ℕ) where
 
   mutual
     -- an expression, of which this is left when these arguments are taken off
-    taken_off : (whole e : Expression Bound) (vs : List (Expression Bound × System)) → Fit vs → in_tree whole ≡ in_tree e + in_arguments vs → in_tree whole ≡ in_system (system_with whole e vs)
+    taken_off : (whole e : Expression Bound) (vs : List (Expression Bound × SourceSystem)) → Fit vs → in_tree whole ≡ in_tree e + in_arguments vs → in_tree whole ≡ in_system (system_with binding_of whole e vs)
     taken_off whole (application a head parts) vs fit h =
-        let more : in_arguments (with_systems parts vs) ≡ in_nodes (expressions_nodes parts) + in_arguments vs = in_more parts vs in
+        let more : in_arguments (with_systems binding_of parts vs) ≡ in_nodes (expressions_nodes parts) + in_arguments vs = in_more parts vs in
         let both : in_nodes (expression_nodes head ++ expressions_nodes parts) ≡ in_tree head + in_nodes (expressions_nodes parts) = in_both (expression_nodes head) (expressions_nodes parts) in
         let sum : in_tree whole ≡ in_nodes (expression_nodes head ++ expressions_nodes parts) + in_arguments vs = h in
-        taken_off whole head (with_systems parts vs) (fit_more parts vs fit) (omega (arith, more, both, sum))
+        taken_off whole head (with_systems binding_of parts vs) (fit_more parts vs fit) (omega (arith, more, both, sum))
     taken_off whole (variable a x) vs fit h = by_name whole a.bound a.span.first vs fit (h ∙ ap (λ k. k + in_arguments vs) (ap length (append-nil (at_if (is_stray s a.bound) a.span.first))))
     taken_off whole (constructor a c) vs fit h = alone whole
     taken_off whole (tuple a parts) vs fit h = alone whole
@@ -107,11 +108,11 @@ module _ (s : Option ℕ) where
     taken_off whole (case_of a scrutinee rows) vs fit h = alone whole
     taken_off whole (do_block a steps) vs fit h = alone whole
 
-    fit_more : (es : Expressions Bound) (others : List (Expression Bound × System)) → Fit others → Fit (with_systems es others)
+    fit_more : (es : Expressions Bound) (others : List (Expression Bound × SourceSystem)) → Fit others → Fit (with_systems binding_of es others)
     fit_more no_expressions others fit = fit
     fit_more (more_expressions e es) others fit = (taken_off e e [] tt (omega arith), fit_more es others fit)
 
-  pub heads_left_out : (e : Expression Bound) → in_tree e ≡ in_system (system_of e)
+  pub heads_left_out : (e : Expression Bound) → in_tree e ≡ in_system (system_of binding_of e)
   heads_left_out e = taken_off e e [] tt (omega arith)
 
 pub both_hold : (program : PlainProgram Bound) → first_broken_of_two program ≡ None → IsStarted program

@@ -12,7 +12,7 @@ use Rattle.rw_tree.specs.Declarations.{Declaration, declaration, import_declarat
 use Rattle.rw_scope_rules.specs.Names.{is_among}
 use Rattle.rw_start.specs.Start.{Start, start_from}
 use Rattle.rw_scope_rules.specs.Nodes.{Node, binding_nodes, group_nodes, declaration_nodes}
-use Rattle.rw_meaning.specs.Systems.{System, Body, system_of, body_of, start_of}
+use Rattle.rw_meaning.specs.Systems.{binding_of, SourceSystem, Body, system_of, body_of, start_of}
 use Rattle.rw_systems.specs.Shown.{right_side_of, map_some}
 use Rattle.rw_start.specs.Seen.{wheres_in}
 use Rattle.rw_start.specs.Positions.{beginning, leaves, inner_nodes, barred, strays, without, misplaced_by, misplaced_from, misplaced_with}
@@ -36,7 +36,7 @@ module _ (s : Option ℕ) (n : ℕ) (ds : List (Decl Bound)) where
       ∙ ap (strays s) (flat_map-append declaration_nodes (plain (take n ds)) (plain (drop (n + 1) ds)))
       ∙ parted s (nodes (plain (take n ds))) (nodes (plain (drop (n + 1) ds)))
 
-  pub in_order : (system : System) (ws : List (Local Bound)) (none p q r t none_too begins given last : List Place) → s ≡ barred n system → none ≡ []
+  pub in_order : (system : SourceSystem) (ws : List (Local Bound)) (none p q r t none_too begins given last : List Place) → s ≡ barred n system → none ≡ []
       → p ≡ none ++ strays s (nodes (plain (take n ds))) → q ≡ p ++ strays s (nodes (plain (take (length ds - (n + 1)) (drop (n + 1) ds))))
       → r ≡ q ++ strays s (inner_nodes system) → t ≡ r ++ strays s (flat_map binding_nodes (map (local_binding itself) ws))
       → none_too ≡ [] → begins ≡ none_too ++ map beginning (leaves system) → given ≡ begins → last ≡ t ++ drop 64 given
@@ -56,17 +56,17 @@ module _ (s : Option ℕ) (n : ℕ) (ds : List (Decl Bound)) where
       ∙ ap (λ b. strays b (nodes (without n (plain ds)) ++ (inner_nodes system ++ groups)) ++ map beginning (drop 64 (leaves system))) start_is
 
 -- a body, from its system and what is bound after its `where`
-pub by_body : (decls : List (Declaration Bound)) (n : ℕ) (body : Option Body) (system : System) (wheres : LocalBindings Bound)
-    → map_some system_of (right_side_of body) ≡ Some system → wheres_in body ≡ Some wheres → misplaced_by decls n body ≡ misplaced_with decls n system wheres
+pub by_body : (decls : List (Declaration Bound)) (n : ℕ) (body : Option (Body Bound)) (system : SourceSystem) (wheres : LocalBindings Bound)
+    → map_some (system_of binding_of) (right_side_of body) ≡ Some system → wheres_in body ≡ Some wheres → misplaced_by decls n body ≡ misplaced_with decls n system wheres
 by_body decls n None system wheres h k = absurd (cc)
 by_body decls n (Some body) system wheres h k =
-    let e : system_of body.expression ≡ system = cc in
+    let e : system_of binding_of body.expression ≡ system = cc in
     let d : body.wheres ≡ wheres = cc in
     ap (λ y. misplaced_with decls n y body.wheres) e ∙ ap (misplaced_with decls n system) d
 
 -- == The body of `start` ==
 
-abbrev bodied : Option Start → Option Body
+abbrev bodied : Option Start → Option (Body Bound)
 bodied None = None
 bodied (Some start) = body_of start.clauses
 
@@ -83,7 +83,7 @@ start_bodied n (data_declaration a x params constructors ∷ ds) = start_bodied 
 start_bodied n (fixity_declaration a side strength names ∷ ds) = start_bodied (suc n) ds
 start_bodied n (signature_declaration a names type ∷ ds) = start_bodied (suc n) ds
 
-no_body : {P : Type 0} (body : Option Body) (wheres : LocalBindings Bound) → right_side_of body ≡ None → wheres_in body ≡ Some wheres → P
+no_body : {P : Type 0} (body : Option (Body Bound)) (wheres : LocalBindings Bound) → right_side_of body ≡ None → wheres_in body ≡ Some wheres → P
 no_body None wheres h k = absurd (cc)
 no_body (Some body) wheres h k = absurd (cc)
 
@@ -99,9 +99,9 @@ module _ (ds given : List (Decl Bound)) (start : Start) (wheres : LocalBindings 
   pub system_there : {P : Type 0} → right_side_of (start_of (plain ds)) ≡ None → P
   system_there h = no_body (body_of start.clauses) wheres (ap right_side_of (sym body_is) ∙ h) bound
 
-  pub in_whole : (system : System) → map_some system_of (right_side_of (start_of (plain ds))) ≡ Some system
+  pub in_whole : (system : SourceSystem) → map_some (system_of binding_of) (right_side_of (start_of (plain ds))) ≡ Some system
       → misplaced_with (plain given) start.number system wheres ≡ misplaced_from (plain ds) (start_from 0 (plain ds))
   in_whole system h =
       ap (λ z. misplaced_with (plain z) start.number system wheres) same
-      ∙ sym (by_body (plain ds) start.number (body_of start.clauses) system wheres (ap (λ b. map_some system_of (right_side_of b)) (sym body_is) ∙ h) bound)
+      ∙ sym (by_body (plain ds) start.number (body_of start.clauses) system wheres (ap (λ b. map_some (system_of binding_of) (right_side_of b)) (sym body_is) ∙ h) bound)
       ∙ ap (misplaced_from (plain ds)) (sym found)

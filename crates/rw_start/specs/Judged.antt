@@ -7,7 +7,8 @@ use Rattle.rw_tree.specs.Declarations.{PlainProgram}
 use Rattle.rw_scope_rules.specs.declared.binding.Bound.{Bound}
 use Rattle.rw_scope_rules.specs.Names.{earliest}
 use Rattle.rw_scope_rules.specs.Verdict.{broken_first}
-use Rattle.rw_meaning.specs.Systems.{System, leaf, side_by_side, fed_back}
+use Rattle.rw_core.specs.Systems.{leaf, side_by_side, fed_back}
+use Rattle.rw_meaning.specs.Systems.{SourceSystem}
 use Rattle.rw_start.specs.Start.{improper_start}
 use Rattle.rw_start.specs.Positions.{misplaced}
 
@@ -21,7 +22,7 @@ abbrev pub first_broken_of_two : PlainProgram Bound → Option Refusal
 first_broken_of_two program = broken_first E15 (earliest (improper_start program)) (broken_first E16 (earliest (misplaced program)) None)
 
 -- how many applications of `par` and `refold` make a system
-abbrev pub applications : System → ℕ
+abbrev pub applications : SourceSystem → ℕ
 applications (leaf e) = 0
 applications (side_by_side d e) = 1 + (applications d + applications e)
 applications (fed_back f g d) = 1 + applications d

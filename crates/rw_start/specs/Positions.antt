@@ -10,26 +10,27 @@ use Rattle.rw_tree.specs.Trees.{Expression, variable, constructor, application, 
 use Rattle.rw_tree.specs.Declarations.{Declaration, PlainProgram}
 use Rattle.rw_scope_rules.specs.Names.{at_if}
 use Rattle.rw_scope_rules.specs.Nodes.{Node, expression_node, expression_nodes, group_nodes, declaration_nodes}
-use Rattle.rw_meaning.specs.Systems.{System, leaf, side_by_side, fed_back, system_of, Body, body_of}
+use Rattle.rw_core.specs.Systems.{leaf, side_by_side, fed_back}
+use Rattle.rw_meaning.specs.Systems.{binding_of, SourceSystem, system_of, Body, body_of}
 use Rattle.rw_start.specs.Start.{Start, start_from}
 
 -- == Systems ==
 
 -- the devices of a system, from left to right
-abbrev pub leaves : System → List (Expression Bound)
+abbrev pub leaves : SourceSystem → List (Expression Bound)
 leaves (leaf e) = e ∷ []
 leaves (side_by_side d e) = leaves d ++ leaves e
 leaves (fed_back f g d) = leaves d
 
 -- the nodes of its devices, and of the functions that devices are fed back by. So all nodes of the body, but the applications of `par` and
 -- `refold` that make the system, and these names at their heads
-abbrev pub inner_nodes : System → List (Node Bound)
+abbrev pub inner_nodes : SourceSystem → List (Node Bound)
 inner_nodes (leaf e) = expression_nodes e
 inner_nodes (side_by_side d e) = inner_nodes d ++ inner_nodes e
 inner_nodes (fed_back f g d) = expression_nodes f ++ (expression_nodes g ++ inner_nodes d)
 
 -- the number of the declaration of `start`, where nothing may name it: its body is an application of `par` or `refold`
-abbrev pub barred : ℕ → System → Option ℕ
+abbrev pub barred : ℕ → SourceSystem → Option ℕ
 barred n (leaf e) = None
 barred n (side_by_side d e) = Some n
 barred n (fed_back f g d) = Some n
@@ -79,15 +80,15 @@ without n xs = take n xs ++ drop (suc n) xs
 
 -- with this number of the declaration of `start`, and such a body: the names that stand elsewhere than at the head of an application that makes the
 -- system, and the devices from the 65th on
-abbrev pub misplaced_with : List (Declaration Bound) → ℕ → System → LocalBindings Bound → List Place
+abbrev pub misplaced_with : List (Declaration Bound) → ℕ → SourceSystem → LocalBindings Bound → List Place
 misplaced_with decls n system wheres =
     strays (barred n system) (flat_map declaration_nodes (without n decls) ++ (inner_nodes system ++ group_nodes wheres))
     ++ map beginning (drop 64 (leaves system))
 
 -- where there is no body of `start`, there is no system
-abbrev pub misplaced_by : List (Declaration Bound) → ℕ → Option Body → List Place
+abbrev pub misplaced_by : List (Declaration Bound) → ℕ → Option (Body Bound) → List Place
 misplaced_by decls n None = strays None (flat_map declaration_nodes decls)
-misplaced_by decls n (Some body) = misplaced_with decls n (system_of body.expression) body.wheres
+misplaced_by decls n (Some body) = misplaced_with decls n (system_of binding_of body.expression) body.wheres
 
 abbrev pub misplaced_from : List (Declaration Bound) → Option Start → List Place
 misplaced_from decls None = strays None (flat_map declaration_nodes decls)

@@ -17,6 +17,6 @@ abbrev pub plain_start : Start → PlainStart
 plain_start start = record { number = start.number; place = start.place; clauses = map (alternative_of itself) start.clauses.now }
 
 -- what is bound after the `where` of a body, if there is one
-abbrev pub wheres_in : Option Body → Option (LocalBindings Bound)
+abbrev pub wheres_in : Option (Body Bound) → Option (LocalBindings Bound)
 wheres_in None = None
 wheres_in (Some body) = Some body.wheres

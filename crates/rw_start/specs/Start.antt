@@ -30,7 +30,7 @@ type_of_start (signature_declaration a names type ∷ ds) = if is_among (codes "
 type_of_start (d ∷ ds) = type_of_start ds
 
 -- one clause without patterns and guards
-abbrev pub has_body : Option Body → Bool
+abbrev pub has_body : Option (Body Bound) → Bool
 has_body None = false
 has_body (Some body) = true
 

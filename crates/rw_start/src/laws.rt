@@ -4,7 +4,7 @@ ghost use Rattle.rw_scope_rules.specs.declared.binding.Bound.{Bound};
 ghost use Rattle.rw_tree.specs.Trees.{Expression};
 ghost use Rattle.rw_tree.specs.Declarations.{PlainProgram};
 ghost use Rattle.rw_scope_rules.specs.Nodes.{expression_nodes};
-ghost use Rattle.rw_meaning.specs.Systems.{system_of};
+ghost use Rattle.rw_meaning.specs.Systems.{binding_of, system_of};
 ghost use Rattle.rw_start.specs.Positions.{inner_nodes, strays};
 ghost use Rattle.rw_start.specs.Judged.{IsStarted, applications, first_broken_of_two};
 
@@ -14,5 +14,5 @@ pub fn start_law()
     ensures holds { (program : PlainProgram Bound) → first_broken_of_two program ≡ None → IsStarted program }
     ensures none_broken { (program : PlainProgram Bound) → IsStarted program → first_broken_of_two program ≡ None }
     ensures heads { (start : Option ℕ) (e : Expression Bound) →
-        length (strays start (expression_nodes e)) ≡ applications (system_of e) + length (strays start (inner_nodes (system_of e))) }
+        length (strays start (expression_nodes e)) ≡ applications (system_of binding_of e) + length (strays start (inner_nodes (system_of binding_of e))) }
 {}

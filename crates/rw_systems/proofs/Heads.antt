@@ -5,7 +5,8 @@ use Rattle.rw_scope_rules.specs.declared.binding.Binding.{Binding}
 use Rattle.rw_scope_rules.specs.declared.binding.Binding.TheVariants.{Declared, Operation as Operates, Constructor as Constructs, Local}
 use Rattle.rw_scope_rules.specs.declared.binding.Bound.{Bound}
 use Rattle.rw_tree.specs.Trees.{Expression, variable, constructor, application, tuple, chain, lambda, let_in, if_then_else, case_of, do_block, Expressions, no_expressions, more_expressions}
-use Rattle.rw_meaning.specs.Systems.{System, leaf, operated, system_with, with_systems}
+use Rattle.rw_core.specs.Systems.{leaf}
+use Rattle.rw_meaning.specs.Systems.{binding_of, SourceSystem, operated, system_with, with_systems}
 use Rattle.rw_tree.specs.declared.expr.Expr.{Expr}
 use Rattle.rw_systems.specs.Heads.{joins, heads_system}
 use Rattle.rw_systems.specs.declared.parts.Parts.TheVariants as p
@@ -13,7 +14,7 @@ use Rattle.rw_systems.specs.declared.parts.Parts.TheOpen.{Parts-F}
 use Rattle.rw_systems.specs.declared.parts.Parts.TheFolds.{fold-roll-Parts}
 use Rattle.rw_systems.specs.Shown.{seen, shown, parts_step}
 
-joins_not : (whole : Expression Bound) (b : Option Binding) (arguments : List (Expression Bound × System)) → joins b ≡ false → operated whole b arguments ≡ leaf whole
+joins_not : (whole : Expression Bound) (b : Option Binding) (arguments : List (Expression Bound × SourceSystem)) → joins b ≡ false → operated whole b arguments ≡ leaf whole
 joins_not whole None arguments h = refl
 joins_not whole (Some (Declared n)) arguments h = refl
 joins_not whole (Some (Constructs n k)) arguments h = refl
@@ -29,8 +30,8 @@ joins_not whole (Some (Operates Extrude)) arguments h = refl
 joins_not whole (Some (Operates Par)) arguments h = absurd (cc)
 joins_not whole (Some (Operates Refold)) arguments h = absurd (cc)
 
-pub leaf_alone : (whole e : Expression Bound) (arguments : List (Expression Bound × System)) → heads_system e ≡ false → system_with whole e arguments ≡ leaf whole
-leaf_alone whole (application a head parts) arguments h = leaf_alone whole head (with_systems parts arguments) h
+pub leaf_alone : (whole e : Expression Bound) (arguments : List (Expression Bound × SourceSystem)) → heads_system e ≡ false → system_with binding_of whole e arguments ≡ leaf whole
+leaf_alone whole (application a head parts) arguments h = leaf_alone whole head (with_systems binding_of parts arguments) h
 leaf_alone whole (variable a x) arguments h = joins_not whole a.bound arguments h
 leaf_alone whole (constructor a c) arguments h = refl
 leaf_alone whole (tuple a parts) arguments h = refl
@@ -41,9 +42,9 @@ leaf_alone whole (if_then_else a test first second) arguments h = refl
 leaf_alone whole (case_of a scrutinee rows) arguments h = refl
 leaf_alone whole (do_block a body) arguments h = refl
 
-pub systems_before : (es : Expressions Bound) (others : List (Expression Bound × System)) → with_systems es others ≡ with_systems es [] ++ others
+pub systems_before : (es : Expressions Bound) (others : List (Expression Bound × SourceSystem)) → with_systems binding_of es others ≡ with_systems binding_of es [] ++ others
 systems_before no_expressions others = refl
-systems_before (more_expressions e es) others = ap (λ z. (e, system_with e e []) ∷ z) (systems_before es others)
+systems_before (more_expressions e es) others = ap (λ z. (e, system_with binding_of e e []) ∷ z) (systems_before es others)
 
 pub shown_leaf : (e : Bor (Expr Bound)) → shown (p.Leaf e) ≡ leaf (seen e.now)
-shown_leaf e = ap shown (sym (p.rolls-Leaf e)) ∙ fold-roll-Parts System parts_step (Parts-F.Leaf e)
+shown_leaf e = ap shown (sym (p.rolls-Leaf e)) ∙ fold-roll-Parts SourceSystem parts_step (Parts-F.Leaf e)

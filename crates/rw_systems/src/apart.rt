@@ -3,7 +3,7 @@ ghost use Rattle.std.specs.Prelude.{◌≡◌, IfOk, MatchOption, map, ◌∷◌
 ghost use Rattle.rw_tree.specs.Views.{itself};
 ghost use Rattle.rw_tree.specs.Trees.{expression_parts, alternative_of};
 ghost use Rattle.rw_tree.specs.Declarations.{declaration};
-ghost use Rattle.rw_meaning.specs.Systems.{system_with, with_systems, system_of, body_of, start_of};
+ghost use Rattle.rw_meaning.specs.Systems.{binding_of, system_with, with_systems, system_of, body_of, start_of};
 ghost use Rattle.rw_systems.specs.Shown.{shown, seen, argument, right_side_of, map_some};
 ghost use Rattle.rw_systems.specs.Heads.{joins, heads_system as heads_system_of};
 
@@ -39,7 +39,7 @@ fn heads_system(expression: &Expr<Bound>) -> bool
 // The parts of an expression. Only an application of `par` or `refold` is taken apart.
 #[cycle(splitting)]
 fn parts_of<'a>(alloc: Global, whole: &'a Expr<Bound>) -> Result<Parts<'a>, OutOfMemory>
-    ensures { IfOk result (λ parts. shown parts ≡ system_of (seen whole.now)) }
+    ensures { IfOk result (λ parts. shown parts ≡ system_of binding_of (seen whole.now)) }
 {
     if !heads_system(whole) {
         return Ok(Parts::Leaf(whole));
@@ -62,7 +62,7 @@ fn without_arguments<'a>(
     whole: &'a Expr<Bound>,
     arguments: Items<Argument<'a>>,
 ) -> Result<Parts<'a>, OutOfMemory>
-    ensures { IfOk result (λ parts. shown parts ≡ system_with (seen whole.now) (seen expression.now) (map argument arguments.entry)) }
+    ensures { IfOk result (λ parts. shown parts ≡ system_with binding_of (seen whole.now) (seen expression.now) (map argument arguments.entry)) }
 {
     match expression {
         Expr::Apply(_, head, parts) => {
@@ -81,7 +81,7 @@ fn arguments_of<'a>(
     alloc: Global,
     parts: &'a [Expr<Bound>],
 ) -> Result<Items<Argument<'a>>, OutOfMemory>
-    ensures { IfOk result (λ all. map argument all ≡ with_systems (expression_parts (map seen parts.now)) []) }
+    ensures { IfOk result (λ all. map argument all ≡ with_systems binding_of (expression_parts (map seen parts.now)) []) }
 {
     let mut all = Items::new(alloc);
     for expression in parts {
@@ -135,7 +135,7 @@ pub fn split<'a>(
     alloc: Global,
     program: &'a Program<Bound>,
 ) -> Result<Option<Parts<'a>>, OutOfMemory>
-    ensures { IfOk result (λ found. MatchOption found (right_side_of (start_of (map (declaration itself) program.now.decls)) ≡ None) (λ parts. map_some system_of (right_side_of (start_of (map (declaration itself) program.now.decls))) ≡ Some (shown parts))) }
+    ensures { IfOk result (λ found. MatchOption found (right_side_of (start_of (map (declaration itself) program.now.decls)) ≡ None) (λ parts. map_some (system_of binding_of) (right_side_of (start_of (map (declaration itself) program.now.decls))) ≡ Some (shown parts))) }
 {
     match start(program.decls.as_slice()) {
         None => Ok(None),

@@ -1,6 +1,7 @@
 // What `par` and `refold` make of their arguments.
 ghost use Rattle.std.specs.Prelude.{◌≡◌, IfOk, map, Some};
-ghost use Rattle.rw_meaning.specs.Systems.{leaf as leaf_of, operated as operated_of};
+ghost use Rattle.rw_core.specs.Systems.{leaf as leaf_of};
+ghost use Rattle.rw_meaning.specs.Systems.{operated as operated_of};
 ghost use Rattle.rw_scope_rules.specs.declared.binding.Binding.TheVariants.{Operation as Operates};
 ghost use Rattle.rw_scope_rules.specs.declared.binding.Operation.TheVariants.{Par, Refold};
 ghost use Rattle.rw_systems.specs.Shown.{shown, seen, argument};

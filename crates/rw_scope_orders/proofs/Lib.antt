@@ -1,0 +1,3 @@
+-- Lemmas about placing.
+pub mod Placing
+pub mod Groups

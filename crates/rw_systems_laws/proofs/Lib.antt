@@ -1,0 +1,2 @@
+-- Lemmas about systems of annotated trees.
+pub mod Annotated
