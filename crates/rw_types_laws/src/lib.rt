@@ -1,0 +1,10 @@
+//! The laws of typings: what a substitution keeps, and the types of an instance. Each law is the contract of a function that
+//! does nothing.
+//!
+//! It leaves what a typing is to `rw_types_rules`, and finding one to `rw_types`. It has no code that runs.
+//! What stands on the typed trees of a program cites it. Begin with `specs/Instances.antt` and `laws.rt`.
+#![tactic(auto)]
+
+mod laws;
+
+pub use laws::{closed_by_law, instance_law, schemes_law, substitution_law, typing_law};
