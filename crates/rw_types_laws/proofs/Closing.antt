@@ -17,7 +17,7 @@ use Rattle.rw_types_laws.proofs.Parts.{each, IsKeeping}
 use Rattle.rw_types_laws.proofs.Agreeing.{all_clauses_agree}
 use Rattle.rw_types_laws.proofs.Known.{constructor_known, written_known}
 
-neither : (a b : Bool) → (a || b) ≡ false → (a ≡ false) × (b ≡ false)
+pub neither : (a b : Bool) → (a || b) ≡ false → (a ≡ false) × (b ≡ false)
 neither true b e = absurd (cc)
 neither false b e = (refl, e)
 

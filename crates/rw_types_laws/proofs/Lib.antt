@@ -7,3 +7,4 @@ pub mod Known
 pub mod Closing
 pub mod Carried
 pub mod Typings
+pub mod Defaults

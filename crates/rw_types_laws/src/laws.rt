@@ -5,10 +5,11 @@ ghost use Rattle.rw_scope_rules.specs.declared.binding.Bound.{Bound};
 ghost use Rattle.rw_tree.specs.Declarations.{Declaration};
 ghost use Rattle.rw_types_solving.specs.declared.term.Sort.{Sort};
 ghost use Rattle.rw_types_solving.specs.Types.{Ty, apply, occurs};
+ghost use Rattle.rw_types_solving.specs.Sorts.{HasSort};
 ghost use Rattle.rw_types_rules.specs.Schemes.{World, world_of, scheme_at};
 ghost use Rattle.rw_types_rules.specs.TypedTrees.{TypedNode, substituted};
 ghost use Rattle.rw_types_rules.specs.WellTyped.{DeclarationAgrees};
-ghost use Rattle.rw_types_rules.specs.Typings.{declaration_label, own_kinds, scheme_kinds, IsTyping};
+ghost use Rattle.rw_types_rules.specs.Typings.{declaration_label, own_kinds, scheme_kinds, IsTyping, IsDefault};
 ghost use Rattle.rw_types_laws.specs.Instances.{IsKnown, IsClosed, EachIs, closed_by, in_instance, HasKnownSchemes, InstanceAgrees};
 ghost use Rattle.rw_types_laws.specs.Substitutions.{Keeps};
 
@@ -40,4 +41,17 @@ pub fn schemes_law()
 /// type is the signature's at these arguments.
 pub fn instance_law()
     ensures { (arguments : List Ty) (world : World) → HasKnownSchemes world → (d : Declaration TypedNode) → length arguments ≡ length (own_kinds world d) → DeclarationAgrees world d → InstanceAgrees world arguments (in_instance arguments d) }
+{}
+
+/// A default typing is a typing without variables: one whatever the sorts of variables are, which each substitution leaves. A type
+/// of one sort whatever the sorts of variables are has none.
+pub fn default_typing_law()
+    ensures typing { (world : World) (d : Declaration Bound) (typed : Declaration TypedNode) → IsDefault world d typed → (sorts : ℕ → Sort) (states : ℕ → Bool) → IsTyping sorts states world d typed }
+    ensures stays { (s : ℕ → Ty) (world : World) (d : Declaration Bound) (typed : Declaration TypedNode) → IsDefault world d typed → substituted s typed ≡ typed }
+    ensures no_variable { (unknowns : ℕ → Sort) (sort : Sort) (type : Ty) → ((sorts : ℕ → Sort) → HasSort sorts unknowns sort type) → (x : ℕ) → occurs x type ≡ false }
+{}
+
+/// A declaration has one default typing at most.
+pub fn one_default_law()
+    ensures { (world : World) (d : Declaration Bound) (one other : Declaration TypedNode) → IsDefault world d one → IsDefault world d other → one ≡ other }
 {}
