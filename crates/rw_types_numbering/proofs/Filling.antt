@@ -276,16 +276,24 @@ spells_all t n [] d h = tt
 spells_all t n (x ∷ xs) d h = (h zero n (omega arith) (omega arith), spells_all t (suc n) xs d (λ i j e l. h (suc i) j (omega arith) (omega arith)))
 
 -- the types of a typed tree, read off by their numbers
-abbrev types_at : List Ty → ℕ → Ty
+abbrev pub types_at : List Ty → ℕ → Ty
 types_at types n = get_or types n unit_type
 
 types_spelled : (types : List Ty) → Spells (types_at types) 0 types
 types_spelled types = spells_all (types_at types) 0 types unit_type (λ i j e l. let same : j ≡ i = omega arith in ap (types_at types) same)
 
--- so each typing is the typed tree of an assignment
-pub from_assignment : (sorts : ℕ → Sort) (states : ℕ → Bool) (world : World) (d : Declaration Bound) (typed : Declaration TypedNode) → IsTyping sorts states world d typed
-    → (t : ℕ → Ty) × (typed ≡ typed_declaration t world d)
-from_assignment sorts states world d typed is =
-    let filled = filled_declaration sorts states (own_kinds world typed) world typed is.agrees is.carries.1 is.nodes_carry in
-    let types : ℕ → Ty = types_at (declaration_carried typed) in
-    (types, sym (filled.is types 0 (types_spelled (declaration_carried typed))) ∙ ap (typed_declaration types world) is.erases)
+module _ (sorts : ℕ → Sort) (states : ℕ → Bool) (world : World) (d : Declaration Bound) (typed : Declaration TypedNode) (is : IsTyping sorts states world d typed) where
+  filled : Filled (declaration_slots world (erased typed)) (declaration_carried typed) (λ t n. labelled_declaration (typed_label t) world n (erased typed)) typed
+  filled = filled_declaration sorts states (own_kinds world typed) world typed is.agrees is.carries.1 is.nodes_carry
+
+  -- each number has one
+  pub types_as_many : length (declaration_slots world d) ≡ length (declaration_carried typed)
+  types_as_many = ap (λ e. length (declaration_slots world e)) (sym is.erases) ∙ filled.as_many
+
+  -- so each typing is the typed tree of its own types
+  pub from_types : typed ≡ typed_declaration (types_at (declaration_carried typed)) world d
+  from_types =
+      sym (filled.is (types_at (declaration_carried typed)) 0 (types_spelled (declaration_carried typed))) ∙ ap (typed_declaration (types_at (declaration_carried typed)) world) is.erases
+
+  pub from_assignment : (t : ℕ → Ty) × (typed ≡ typed_declaration t world d)
+  from_assignment = (types_at (declaration_carried typed), from_types)
