@@ -1,0 +1,3 @@
+-- Lemmas.
+pub mod Open
+pub mod Unifying
