@@ -8,7 +8,8 @@ use Rattle.rw_types_solving.specs.Conditions.{is_state_monad, any, listed}
 use Rattle.rw_types_solving.specs.Closing.{sort_of}
 use Rattle.rw_types_rules.specs.declared.kind.VariableKind.{VariableKind}
 use Rattle.rw_types_rules.specs.declared.kind.VariableKind.TheVariants.{Plain, Monad, StateMonad, Layer}
-use Rattle.rw_types_rules.specs.Typings.{kind_sort, is_state_kind, unknown_sorts, state_unknowns, MayBe}
+use Rattle.rw_types_rules.specs.Schemes.{World}
+use Rattle.rw_types_rules.specs.Typings.{kind_sort, is_state_kind, heads_of, state_unknowns, MayBe}
 use Rattle.rw_types.specs.Inside.{kind_at, slot_sorts, AreCarried}
 
 pub slot_sort : (slots : List VariableKind) (x : ℕ) → slot_sorts slots x ≡ kind_sort (kind_at slots x)
@@ -25,41 +26,41 @@ pub listed_states : (own : List VariableKind) → listed (map is_state_kind own)
 listed_states own = λ i. λ n. listed_at own n i
 
 -- what may stand for a variable of a kind
-module _ (v : ℕ → Sort) (y : ℕ → Bool) (own : List VariableKind) where
-  pub may_sort : (k : VariableKind) (u : Ty) → MayBe v y own k u → HasSort v (unknown_sorts own) (kind_sort k) u
+module _ (v : ℕ → Sort) (y : ℕ → Bool) (own : List VariableKind) (world : World) where
+  pub may_sort : (k : VariableKind) (u : Ty) → MayBe v y own world k u → HasSort v (heads_of world own) (kind_sort k) u
   may_sort Plain u h = h.0
   may_sort Monad u h = h.0
   may_sort StateMonad u h = h.0.0
   may_sort Layer u h = h.0
 
-  pub may_small : (k : VariableKind) (u : Ty) → MayBe v y own k u → nodes u ≤ most
+  pub may_small : (k : VariableKind) (u : Ty) → MayBe v y own world k u → nodes u ≤ most
   may_small Plain u h = h.1
   may_small Monad u h = h.1
   may_small StateMonad u h = h.0.1
   may_small Layer u h = h.1
 
-  pub may_stack : (k : VariableKind) (u : Ty) → MayBe v y own k u → is_state_kind k ≡ true → is_state_monad y (state_unknowns own) u ≡ true
+  pub may_stack : (k : VariableKind) (u : Ty) → MayBe v y own world k u → is_state_kind k ≡ true → is_state_monad y (state_unknowns own) u ≡ true
   may_stack Plain u h e = absurd (cc)
   may_stack Monad u h e = absurd (cc)
   may_stack StateMonad u h e = h.1
   may_stack Layer u h e = absurd (cc)
 
-  pub may_be : (k : VariableKind) (u : Ty) → HasSort v (unknown_sorts own) (kind_sort k) u → nodes u ≤ most → (is_state_kind k ≡ true → is_state_monad y (state_unknowns own) u ≡ true) → MayBe v y own k u
+  pub may_be : (k : VariableKind) (u : Ty) → HasSort v (heads_of world own) (kind_sort k) u → nodes u ≤ most → (is_state_kind k ≡ true → is_state_monad y (state_unknowns own) u ≡ true) → MayBe v y own world k u
   may_be Plain u s n f = (s, n)
   may_be Monad u s n f = (s, n)
   may_be StateMonad u s n f = ((s, n), f refl)
   may_be Layer u s n f = (s, n)
 
 -- as the code tests it
-module _ (slots own : List VariableKind) (s : ℕ → Ty) (n : ℕ) (sorts rs : List Sort) (states us : List Bool) (a b : Bool) where
+module _ (world : World) (slots own : List VariableKind) (s : ℕ → Ty) (n : ℕ) (sorts rs : List Sort) (states us : List Bool) (a b : Bool) where
   pub carried_both : n ≡ length slots → sorts ≡ map kind_sort slots → rs ≡ sorts → states ≡ map is_state_kind own → us ≡ states
-      → (IsTrue a ↔ ((x : ℕ) → x < n → HasSort (sort_of rs) (unknown_sorts own) (sort_of rs x) (s x)))
+      → (IsTrue a ↔ ((x : ℕ) → x < n → HasSort (sort_of rs) (heads_of world own) (sort_of rs x) (s x)))
       → (IsTrue b ↔ ((x : ℕ) → x < n → is_state_kind (kind_at slots x) ≡ true → is_state_monad any (listed us) (s x) ≡ true))
-      → (IsTrue a × IsTrue b) ↔ AreCarried slots own s
+      → (IsTrue a × IsTrue b) ↔ AreCarried world slots own s
   carried_both e f g h k p q =
-      let sorted : (IsTrue a) ↔ ((x : ℕ) → x < length slots → HasSort (slot_sorts slots) (unknown_sorts own) (slot_sorts slots x) (s x)) =
-      subst (λ (m : ℕ). IsTrue a ↔ ((x : ℕ) → x < m → HasSort (slot_sorts slots) (unknown_sorts own) (slot_sorts slots x) (s x))) e
-      (subst (λ (ss : List Sort). IsTrue a ↔ ((x : ℕ) → x < n → HasSort (sort_of ss) (unknown_sorts own) (sort_of ss x) (s x))) (g ∙ f) p) in
+      let sorted : (IsTrue a) ↔ ((x : ℕ) → x < length slots → HasSort (slot_sorts slots) (heads_of world own) (slot_sorts slots x) (s x)) =
+      subst (λ (m : ℕ). IsTrue a ↔ ((x : ℕ) → x < m → HasSort (slot_sorts slots) (heads_of world own) (slot_sorts slots x) (s x))) e
+      (subst (λ (ss : List Sort). IsTrue a ↔ ((x : ℕ) → x < n → HasSort (sort_of ss) (heads_of world own) (sort_of ss x) (s x))) (g ∙ f) p) in
       let stacked : (IsTrue b) ↔ ((x : ℕ) → x < length slots → is_state_kind (kind_at slots x) ≡ true → is_state_monad any (state_unknowns own) (s x) ≡ true) =
       subst (λ (m : ℕ). IsTrue b ↔ ((x : ℕ) → x < m → is_state_kind (kind_at slots x) ≡ true → is_state_monad any (state_unknowns own) (s x) ≡ true)) e
       (subst (λ (u : ℕ → Bool). IsTrue b ↔ ((x : ℕ) → x < n → is_state_kind (kind_at slots x) ≡ true → is_state_monad any u (s x) ≡ true)) (ap listed (k ∙ h) ∙ listed_states own) q) in

@@ -12,7 +12,7 @@ use Rattle.rw_types_rules.specs.Schemes.{World, scheme_at}
 use Rattle.rw_types_rules.specs.Relabelled.{relabelled_declaration}
 use Rattle.rw_types_rules.specs.TypedTrees.{TypedNode, substituted}
 use Rattle.rw_types_rules.specs.WellTyped.{DeclarationAgrees}
-use Rattle.rw_types_rules.specs.Typings.{unknown_sorts, MayBe, scheme_kinds, declaration_label, own_kinds, IsTyping, IsTypable, IsInstanceOf, leftover, IsDefault}
+use Rattle.rw_types_rules.specs.Typings.{heads_of, MayBe, scheme_kinds, declaration_label, own_kinds, IsTyping, IsTypable, IsInstanceOf, leftover, IsDefault}
 use Rattle.rw_types_equations.specs.declared.numbered.Numbered.{Numbered}
 use Rattle.rw_types_equations.specs.Numbered.{typed_by}
 use Rattle.rw_types_numbering.specs.Slots.{declaration_slots}
@@ -32,13 +32,13 @@ abbrev typed_tree : (ℕ → Ty) → Declaration Numbered → Declaration TypedN
 typed_tree t e = relabelled_declaration (typed_by t) e
 
 -- what numbers fit, one by one
-module _ (v : ℕ → Sort) (y : ℕ → Bool) (own : List VariableKind) (t : ℕ → Ty) where
-  pub fits_at : (n : ℕ) (kinds : List VariableKind) → Fits v y own t n kinds → (x m : ℕ) → m ≡ n + x → x < length kinds → MayBe v y own (kind_at kinds x) (t m)
+module _ (v : ℕ → Sort) (y : ℕ → Bool) (own : List VariableKind) (world : World) (t : ℕ → Ty) where
+  pub fits_at : (n : ℕ) (kinds : List VariableKind) → Fits v y own world t n kinds → (x m : ℕ) → m ≡ n + x → x < length kinds → MayBe v y own world (kind_at kinds x) (t m)
   fits_at n [] h x m e l = absurd (omega arith)
-  fits_at n (k ∷ ks) h zero m e l = let same : n ≡ m = omega arith in subst (λ (z : ℕ). MayBe v y own k (t z)) same h.0
+  fits_at n (k ∷ ks) h zero m e l = let same : n ≡ m = omega arith in subst (λ (z : ℕ). MayBe v y own world k (t z)) same h.0
   fits_at n (k ∷ ks) h (suc x) m e l = fits_at (suc n) ks h.1 x m (omega arith) (omega arith)
 
-  pub all_fit : (n : ℕ) (kinds : List VariableKind) → ((x m : ℕ) → m ≡ n + x → x < length kinds → MayBe v y own (kind_at kinds x) (t m)) → Fits v y own t n kinds
+  pub all_fit : (n : ℕ) (kinds : List VariableKind) → ((x m : ℕ) → m ≡ n + x → x < length kinds → MayBe v y own world (kind_at kinds x) (t m)) → Fits v y own world t n kinds
   all_fit n [] h = tt
   all_fit n (k ∷ ks) h = (h zero n (omega arith) (omega arith), all_fit (suc n) ks (λ x m e l. h (suc x) m (omega arith) (omega arith)))
 
@@ -47,7 +47,7 @@ module _ (world : World) (d : Declaration Bound) (tree : Decl Numbered) (e : Dec
     (erases : relabelled_declaration (λ a. a.node) e ≡ d)
     (assigned : (v : ℕ → Sort) (y : ℕ → Bool) (typed : Declaration TypedNode) → IsTyping v y world d typed → (t : ℕ → Ty) × (typed ≡ relabelled_declaration (typed_by t) e))
     (exactly : (v : ℕ → Sort) (y : ℕ → Bool) (t : ℕ → Ty) → IsTyping v y world d (relabelled_declaration (typed_by t) e)
-    ↔ (DeclarationAgrees world (relabelled_declaration (typed_by t) e) × Fits v y (own_kinds world (relabelled_declaration (typed_by t) e)) t 0 (declaration_slots world d)))
+    ↔ (DeclarationAgrees world (relabelled_declaration (typed_by t) e) × Fits v y (own_kinds world (relabelled_declaration (typed_by t) e)) world t 0 (declaration_slots world d)))
     (instanced : (t s r : ℕ → Ty) → ((x : ℕ) → t x ≡ apply r (s x)) → relabelled_declaration (typed_by t) e ≡ substituted r (relabelled_declaration (typed_by s) e))
     (link : (t : ℕ → Ty) → declaration (typed_by t) tree ≡ relabelled_declaration (typed_by t) e)
     (all : slots ≡ declaration_slots world d) (mine : own ≡ declared_kinds world d) where
@@ -65,19 +65,19 @@ module _ (world : World) (d : Declaration Bound) (tree : Decl Numbered) (e : Dec
       mine ∙ ap (λ (b : Bound). scheme_kinds (scheme_at world b.bound)) (here ∙ there)
 
   -- a typing is an assignment under which the types agree, of these kinds
-  typing_then : (v : ℕ → Sort) (y : ℕ → Bool) (t : ℕ → Ty) → IsTyping v y world d (typed_tree t e) → MayStand v y own slots t
+  typing_then : (v : ℕ → Sort) (y : ℕ → Bool) (t : ℕ → Ty) → IsTyping v y world d (typed_tree t e) → MayStand v y own world slots t
   typing_then v y t h x l =
-      let f = subst (λ (ks : List VariableKind). Fits v y own t 0 ks) (sym all) (subst (λ (os : List VariableKind). Fits v y os t 0 (declaration_slots world d)) (sym (own_is t)) ((exactly v y t).0 h).1) in
-      fits_at v y own t 0 slots f x x (omega arith) l
+      let f = subst (λ (ks : List VariableKind). Fits v y own world t 0 ks) (sym all) (subst (λ (os : List VariableKind). Fits v y os world t 0 (declaration_slots world d)) (sym (own_is t)) ((exactly v y t).0 h).1) in
+      fits_at v y own world t 0 slots f x x (omega arith) l
 
-  typing_back : (v : ℕ → Sort) (y : ℕ → Bool) (t : ℕ → Ty) → DeclarationAgrees world (declaration (typed_by t) tree) → MayStand v y own slots t → IsTyping v y world d (typed_tree t e)
+  typing_back : (v : ℕ → Sort) (y : ℕ → Bool) (t : ℕ → Ty) → DeclarationAgrees world (declaration (typed_by t) tree) → MayStand v y own world slots t → IsTyping v y world d (typed_tree t e)
   typing_back v y t h may =
-      let f : Fits v y own t 0 slots = all_fit v y own t 0 slots (λ x m e l. let same : x ≡ m = omega arith in subst (λ (z : ℕ). MayBe v y own (kind_at slots x) (t z)) same (may x l)) in
-      (exactly v y t).1 (agrees_then t h, subst (λ (os : List VariableKind). Fits v y os t 0 (declaration_slots world d)) (own_is t) (subst (λ (ks : List VariableKind). Fits v y own t 0 ks) all f))
+      let f : Fits v y own world t 0 slots = all_fit v y own world t 0 slots (λ x m e l. let same : x ≡ m = omega arith in subst (λ (z : ℕ). MayBe v y own world (kind_at slots x) (t z)) same (may x l)) in
+      (exactly v y t).1 (agrees_then t h, subst (λ (os : List VariableKind). Fits v y os world t 0 (declaration_slots world d)) (own_is t) (subst (λ (ks : List VariableKind). Fits v y own world t 0 ks) all f))
 
-  general_stands : (c : ℕ → Ty) (k : IsSolved world tree slots own c) → MayStand (slot_sorts slots) any own slots k.general
+  general_stands : (c : ℕ → Ty) (k : IsSolved world tree slots own c) → MayStand (slot_sorts slots) any own world slots k.general
   general_stands c k x l =
-      may_be (slot_sorts slots) any own (kind_at slots x) (k.general x) (subst (λ (z : Sort). HasSort (slot_sorts slots) (unknown_sorts own) z (k.general x)) (slot_sort slots x) (k.carried.sorted x l))
+      may_be (slot_sorts slots) any own world (kind_at slots x) (k.general x) (subst (λ (z : Sort). HasSort (slot_sorts slots) (heads_of world own) z (k.general x)) (slot_sort slots x) (k.carried.sorted x l))
       (k.small x l) (k.carried.stacked x l)
 
   -- another typing is an instance of the general one

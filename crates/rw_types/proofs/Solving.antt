@@ -13,38 +13,38 @@ use Rattle.rw_types_solving.proofs.StateMonads.{state_back}
 use Rattle.rw_types.proofs.Sorting.{general_sort}
 use Rattle.rw_types_rules.specs.declared.kind.VariableKind.{VariableKind}
 use Rattle.rw_types_rules.specs.Schemes.{World}
-use Rattle.rw_types_rules.specs.Typings.{kind_sort, unknown_sorts, state_unknowns}
+use Rattle.rw_types_rules.specs.Typings.{kind_sort, heads_of, state_unknowns}
 use Rattle.rw_types_equations.specs.declared.numbered.Numbered.{Numbered}
 use Rattle.rw_types.specs.Inferred.{type_of}
 use Rattle.rw_types.specs.Inside.{AreWithin, kind_at, slot_sorts, AreCarried, MayStand, AgreesBy, IsSolved, HasNoSolution}
 use Rattle.rw_types.proofs.ByKind.{slot_sort, may_sort, may_small, may_stack}
 use Rattle.rw_types.proofs.Closing.{closed_all}
 
-module _ (slots own : List VariableKind) where
+module _ (world : World) (slots own : List VariableKind) where
   -- an assignment of these kinds gives each number a type of its sort
-  stands_sorted : (v : ℕ → Sort) (y : ℕ → Bool) (t : ℕ → Ty) → MayStand v y own slots t → (x : ℕ) → x < length slots → HasSort v (unknown_sorts own) (slot_sorts slots x) (t x)
-  stands_sorted v y t may x l = subst (λ (k : Sort). HasSort v (unknown_sorts own) k (t x)) (sym (slot_sort slots x)) (may_sort v y own (kind_at slots x) (t x) (may x l))
+  stands_sorted : (v : ℕ → Sort) (y : ℕ → Bool) (t : ℕ → Ty) → MayStand v y own world slots t → (x : ℕ) → x < length slots → HasSort v (heads_of world own) (slot_sorts slots x) (t x)
+  stands_sorted v y t may x l = subst (λ (k : Sort). HasSort v (heads_of world own) k (t x)) (sym (slot_sort slots x)) (may_sort v y own world (kind_at slots x) (t x) (may x l))
 
   -- so what it is an instance of is of these kinds
   pub instance_carried : (v : ℕ → Sort) (y : ℕ → Bool) (t : ℕ → Ty) (types : List Term) → Agrees t (meaning types) → length types ≡ length slots → AreWithin (length slots) types
-      → MayStand v y own slots t → AreCarried slots own (meaning types)
+      → MayStand v y own world slots t → AreCarried world slots own (meaning types)
   instance_carried v y t types a n within may = record {
-    sorted = λ x l. general_sort v (unknown_sorts own) (slot_sorts slots) t (slot_sorts slots x) (meaning types x)
-        (subst (HasSort v (unknown_sorts own) (slot_sorts slots x)) (a x) (stands_sorted v y t may x l))
+    sorted = λ x l. general_sort v (heads_of world own) (slot_sorts slots) t (slot_sorts slots x) (meaning types x)
+        (subst (HasSort v (heads_of world own) (slot_sorts slots x)) (a x) (stands_sorted v y t may x l))
         (λ z o. stands_sorted v y t may z (within x (omega arith) z o));
-    stacked = λ x l e. state_back y (state_unknowns own) t (meaning types x) (subst (λ (u : Ty). is_state_monad y (state_unknowns own) u ≡ true) (a x) (may_stack v y own (kind_at slots x) (t x) (may x l) e));
+    stacked = λ x l e. state_back y (state_unknowns own) t (meaning types x) (subst (λ (u : Ty). is_state_monad y (state_unknowns own) u ≡ true) (a x) (may_stack v y own world (kind_at slots x) (t x) (may x l) e));
   }
 
 module _ (world : World) (tree : Decl Numbered) (slots own : List VariableKind) where
   pub none_small : ((t : ℕ → Ty) → AgreesBy world tree t → Small (length slots) t → ⊥) → HasNoSolution world tree slots own
-  none_small f v y t a may = f t a (λ x l. may_small v y own (kind_at slots x) (t x) (may x l))
+  none_small f v y t a may = f t a (λ x l. may_small v y own world (kind_at slots x) (t x) (may x l))
 
   pub none_carried : (types : List Term) → ((t : ℕ → Ty) → AgreesBy world tree t → Agrees t (meaning types)) → length types ≡ length slots → AreWithin (length slots) types
-      → (AreCarried slots own (meaning types) → ⊥) → HasNoSolution world tree slots own
-  none_carried types general n within f v y t a may = f (instance_carried slots own v y t types (general t a) n within may)
+      → (AreCarried world slots own (meaning types) → ⊥) → HasNoSolution world tree slots own
+  none_carried types general n within f v y t a may = f (instance_carried world slots own v y t types (general t a) n within may)
 
   pub is_solved : (types made seen : List Term) (sorts ss : List Sort) → length types ≡ length slots → AgreesBy world tree (meaning types) → ((t : ℕ → Ty) → AgreesBy world tree t → Agrees t (meaning types))
-      → Small (length slots) (meaning types) → AreWithin (length slots) types → AreCarried slots own (meaning types) → seen ≡ types → sorts ≡ map kind_sort slots → ss ≡ sorts
+      → Small (length slots) (meaning types) → AreWithin (length slots) types → AreCarried world slots own (meaning types) → seen ≡ types → sorts ≡ map kind_sort slots → ss ≡ sorts
       → plains made ≡ map (apply (closing ss)) (plains seen) → IsSolved world tree slots own (type_of made)
   is_solved types made seen sorts ss n agrees general small within carried e f g closed = record {
     general = meaning types;
@@ -57,9 +57,9 @@ module _ (world : World) (tree : Decl Numbered) (slots own : List VariableKind) 
   }
 
 -- what the test says
-pub are_carried : (slots own : List VariableKind) (types seen : List Term) (r : Bool) → seen ≡ types → r ≡ true → (IsTrue r ↔ AreCarried slots own (meaning seen)) → AreCarried slots own (meaning types)
-are_carried slots own types seen r e f k = subst (λ (ts : List Term). AreCarried slots own (meaning ts)) e (k.0 f)
+pub are_carried : (world : World) (slots own : List VariableKind) (types seen : List Term) (r : Bool) → seen ≡ types → r ≡ true → (IsTrue r ↔ AreCarried world slots own (meaning seen)) → AreCarried world slots own (meaning types)
+are_carried world slots own types seen r e f k = subst (λ (ts : List Term). AreCarried world slots own (meaning ts)) e (k.0 f)
 
-pub not_carried : (slots own : List VariableKind) (types seen : List Term) (r : Bool) → seen ≡ types → r ≡ false → (IsTrue r ↔ AreCarried slots own (meaning seen)) → AreCarried slots own (meaning types) → ⊥
-not_carried slots own types seen r e f k h =
-    let g : r ≡ true = k.1 (subst (λ (ts : List Term). AreCarried slots own (meaning ts)) (sym e) h) in let same : false ≡ true = sym f ∙ g in absurd (cc)
+pub not_carried : (world : World) (slots own : List VariableKind) (types seen : List Term) (r : Bool) → seen ≡ types → r ≡ false → (IsTrue r ↔ AreCarried world slots own (meaning seen)) → AreCarried world slots own (meaning types) → ⊥
+not_carried world slots own types seen r e f k h =
+    let g : r ≡ true = k.1 (subst (λ (ts : List Term). AreCarried world slots own (meaning ts)) (sym e) h) in let same : false ≡ true = sym f ∙ g in absurd (cc)

@@ -17,7 +17,7 @@ use Rattle.rw_types_rules.specs.declared.kind.VariableKind.{VariableKind}
 use Rattle.rw_types_rules.specs.declared.kind.VariableKind.TheVariants.{Plain}
 use Rattle.rw_types_rules.specs.Schemes.{World, scheme_at}
 use Rattle.rw_types_rules.specs.WellTyped.{DeclarationAgrees}
-use Rattle.rw_types_rules.specs.Typings.{kind_sort, is_state_kind, unknown_sorts, state_unknowns, MayBe, scheme_kinds, declaration_label, leftover, IsTypable, IsDefault}
+use Rattle.rw_types_rules.specs.Typings.{kind_sort, is_state_kind, heads_of, state_unknowns, MayBe, scheme_kinds, declaration_label, leftover, IsTypable, IsDefault}
 use Rattle.rw_types_equations.specs.declared.numbered.Numbered.{Numbered}
 use Rattle.rw_types_equations.specs.Numbered.{typed_by}
 use Rattle.rw_types.specs.declared.typed.TypedDecl.{TypedDecl}
@@ -40,13 +40,13 @@ abbrev pub slot_sorts : List VariableKind → ℕ → Sort
 slot_sorts slots = sort_of (map kind_sort slots)
 
 -- each number's type is of its sort, and may be a state monad where its kind is that of one
-pub record AreCarried (slots own : List VariableKind) (s : ℕ → Ty) : Type 0 where
-  pub sorted : (x : ℕ) → x < length slots → HasSort (slot_sorts slots) (unknown_sorts own) (slot_sorts slots x) (s x)
+pub record AreCarried (world : World) (slots own : List VariableKind) (s : ℕ → Ty) : Type 0 where
+  pub sorted : (x : ℕ) → x < length slots → HasSort (slot_sorts slots) (heads_of world own) (slot_sorts slots x) (s x)
   pub stacked : (x : ℕ) → x < length slots → is_state_kind (kind_at slots x) ≡ true → is_state_monad any (state_unknowns own) (s x) ≡ true
 
 -- each number's type is one that its kind may stand for
-abbrev pub MayStand : (ℕ → Sort) → (ℕ → Bool) → List VariableKind → List VariableKind → (ℕ → Ty) → Type 0
-MayStand sorts states own slots t = (x : ℕ) → x < length slots → MayBe sorts states own (kind_at slots x) (t x)
+abbrev pub MayStand : (ℕ → Sort) → (ℕ → Bool) → List VariableKind → World → List VariableKind → (ℕ → Ty) → Type 0
+MayStand sorts states own world slots t = (x : ℕ) → x < length slots → MayBe sorts states own world (kind_at slots x) (t x)
 
 -- the types of the declaration agree
 abbrev pub AgreesBy : World → Decl Numbered → (ℕ → Ty) → Type 0
@@ -58,12 +58,12 @@ pub record IsSolved (world : World) (tree : Decl Numbered) (slots own : List Var
   pub agrees : AgreesBy world tree general
   pub most_general : (t : ℕ → Ty) → AgreesBy world tree t → Agrees t general
   pub small : Small (length slots) general
-  pub carried : AreCarried slots own general
+  pub carried : AreCarried world slots own general
   pub closed : (x : ℕ) → c x ≡ apply (leftover (slot_sorts slots)) (general x)
 
 -- no assignment of types of these kinds agrees
 abbrev pub HasNoSolution : World → Decl Numbered → List VariableKind → List VariableKind → Type 0
-HasNoSolution world tree slots own = (sorts : ℕ → Sort) (states : ℕ → Bool) (t : ℕ → Ty) → AgreesBy world tree t → MayStand sorts states own slots t → ⊥
+HasNoSolution world tree slots own = (sorts : ℕ → Sort) (states : ℕ → Bool) (t : ℕ → Ty) → AgreesBy world tree t → MayStand sorts states own world slots t → ⊥
 
 -- what an answer says of one declaration
 abbrev pub IsInferredAlone : World → Declaration Bound → Result TypedDecl Fail → Type 0

@@ -28,7 +28,7 @@ pub fn default_types(
     ensures refused { result ≡ Err (fail.Refused (record {})) → HasNoSolution (seen_world world.now) tree.now slots.now own.now }
 {
     let types = general_types(alloc, tree, world, slots.len())?;
-    if !are_carried(alloc, types.as_slice(), slots, own)? {
+    if !are_carried(alloc, types.as_slice(), slots, own, world)? {
         return Err(Unsolved::Refused(NoSolution));
     }
     let sorts = sorts_of(alloc, slots)?;

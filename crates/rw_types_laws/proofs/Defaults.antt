@@ -6,7 +6,7 @@ use Rattle.rw_types_solving.specs.declared.term.Head.{Head}
 use Rattle.rw_types_solving.specs.declared.term.Sort.{Sort}
 use Rattle.rw_types_solving.specs.declared.term.Sort.TheVariants as s
 use Rattle.rw_types_solving.specs.Types.{Ty, Tys, var, app, none, more, apply, apply_in, nodes, occurs, occurs_in, is_known_layer}
-use Rattle.rw_types_solving.specs.Sorts.{HasSort, HasSorts, part_sort}
+use Rattle.rw_types_solving.specs.Sorts.{Heads, HasSort, HasSorts, part_sort}
 use Rattle.rw_types_solving.specs.Tables.{most}
 use Rattle.rw_types_solving.specs.Conditions.{is_state_layer, is_state_monad}
 use Rattle.rw_types_solving.specs.Closing.{closed_as}
@@ -18,7 +18,7 @@ use Rattle.rw_types_rules.specs.declared.kind.VariableKind.TheVariants.{Plain, M
 use Rattle.rw_types_rules.specs.Words.{unit_type}
 use Rattle.rw_types_rules.specs.Schemes.{World}
 use Rattle.rw_types_rules.specs.TypedTrees.{TypedNode, substituted_node, substituted}
-use Rattle.rw_types_rules.specs.Typings.{kind_sort, unknown_sorts, state_unknowns, MayBe, IsTyping, IsInstanceOf, leftover, IsDefault}
+use Rattle.rw_types_rules.specs.Typings.{kind_sort, heads_of, state_unknowns, MayBe, IsTyping, IsInstanceOf, leftover, IsDefault}
 use Rattle.rw_types_numbering.specs.Rows.{declaration_carried}
 use Rattle.rw_types_numbering.specs.Slots.{declaration_slots}
 use Rattle.rw_types_numbering.specs.Fits.{Fits, typed_declaration}
@@ -32,7 +32,7 @@ use Rattle.rw_types_laws.proofs.Closing.{neither}
 
 -- == A typing ==
 
-closed_sort : (w u : ℕ → Sort) (k : Sort) → HasSort w u k (closed_as k)
+closed_sort : (w : ℕ → Sort) (u : Heads) (k : Sort) → HasSort w u k (closed_as k)
 closed_sort w u s.Plain = (refl, tt)
 closed_sort w u s.Monad = (refl, refl)
 closed_sort w u s.Layer = (refl, ((refl, tt), refl))
@@ -51,15 +51,15 @@ bare_small (var x) k l = let m = layer_most k in omega arith
 bare_small (app h ts) k l = omega arith
 
 -- closing keeps typings
-module _ (own : List VariableKind) (v : ℕ → Sort) (y : ℕ → Bool) (w : ℕ → Sort) (z : ℕ → Bool) where
-  closing_small : (k : Sort) (t : Ty) → HasSort v (unknown_sorts own) k t → nodes t ≤ most → nodes (apply (leftover v) t) ≤ most
+module _ (own : List VariableKind) (world : World) (v : ℕ → Sort) (y : ℕ → Bool) (w : ℕ → Sort) (z : ℕ → Bool) where
+  closing_small : (k : Sort) (t : Ty) → HasSort v (heads_of world own) k t → nodes t ≤ most → nodes (apply (leftover v) t) ≤ most
   closing_small k t g l =
-      let e = same_nodes (leftover v) v (unknown_sorts own) (λ x. closed_one (v x)) (λ x q. ap (λ o. is_known_layer (closed_as o)) q) k t g in
+      let e = same_nodes (leftover v) v (heads_of world own) (λ x. closed_one (v x)) (λ x q. ap (λ o. is_known_layer (closed_as o)) q) k t g in
       let b = bare_small t k l in omega arith
 
-  closing_keeps : Keeps own v y w z (leftover v)
+  closing_keeps : Keeps own world v y w z (leftover v)
   closing_keeps = record {
-    sorted = λ x. closed_sort w (unknown_sorts own) (v x);
+    sorted = λ x. closed_sort w (heads_of world own) (v x);
     stacked = λ x p e. ap (λ k. is_state_monad z (state_unknowns own) (closed_as k)) e;
     layered = λ x p e. ap (λ k. is_state_layer z (closed_as k)) e;
     small = λ k t h. closing_small k t h.0 h.1;
@@ -68,7 +68,7 @@ module _ (own : List VariableKind) (v : ℕ → Sort) (y : ℕ → Bool) (w : �
 pub default_typing : (world : World) (d : Declaration Bound) (typed : Declaration TypedNode) → IsDefault world d typed → (w : ℕ → Sort) (z : ℕ → Bool) → IsTyping w z world d typed
 default_typing world d typed is w z =
     subst (IsTyping w z world d) (sym is.closed)
-    (typing_kept is.sorts is.states w z (leftover is.sorts) world d is.general (closing_keeps (declared_kinds world d) is.sorts is.states w z) is.typing)
+    (typing_kept is.sorts is.states w z (leftover is.sorts) world d is.general (closing_keeps (declared_kinds world d) world is.sorts is.states w z) is.typing)
 
 -- == Without variables ==
 
@@ -99,7 +99,7 @@ neither_false : (a b : Bool) → a ≡ false → b ≡ false → (a || b) ≡ fa
 neither_false true b p q = absurd (cc)
 neither_false false b p q = q
 
-module _ (w : ℕ → Sort) where
+module _ (w : Heads) where
   mutual
     pub no_variable : (k : Sort) (t : Ty) → ((v : ℕ → Sort) → HasSort v w k t) → (x : ℕ) → occurs x t ≡ false
     no_variable k (var y) h x = let e : s.Plain ≡ s.Monad = h (λ n. s.Plain) ∙ sym (h (λ n. s.Monad)) in absurd (cc)
@@ -112,7 +112,7 @@ module _ (w : ℕ → Sort) where
 -- == The only one ==
 
 -- types that are instances of one another are the same once they are closed
-module _ (v1 v2 u : ℕ → Sort) (back : ℕ → Ty) where
+module _ (v1 v2 : ℕ → Sort) (u : Heads) (back : ℕ → Ty) where
   variable_closed : (k : Sort) (x : ℕ) (t : Ty) → v1 x ≡ k → HasSort v2 u k t → apply back t ≡ var x → closed_as (v1 x) ≡ apply (leftover v2) t
   variable_closed k x (var z) e g same = ap closed_as (e ∙ sym g)
   variable_closed k x (app h ts) e g same = absurd (cc)
@@ -131,20 +131,20 @@ module _ (v1 v2 u : ℕ → Sort) (back : ℕ → Ty) where
           let a = type_closed (part_sort h i) t g.0 f.0 p in let b = types_closed h (suc i) ts g.1 f.1 q in
           λ j. more (a j) (b j)
 
-may_sort : (v : ℕ → Sort) (y : ℕ → Bool) (own : List VariableKind) (k : VariableKind) (t : Ty) → MayBe v y own k t → HasSort v (unknown_sorts own) (kind_sort k) t
-may_sort v y own Plain t h = h.0
-may_sort v y own Monad t h = h.0
-may_sort v y own StateMonad t h = h.0.0
-may_sort v y own Layer t h = h.0
+may_sort : (v : ℕ → Sort) (y : ℕ → Bool) (own : List VariableKind) (world : World) (k : VariableKind) (t : Ty) → MayBe v y own world k t → HasSort v (heads_of world own) (kind_sort k) t
+may_sort v y own world Plain t h = h.0
+may_sort v y own world Monad t h = h.0
+may_sort v y own world StateMonad t h = h.0.0
+may_sort v y own world Layer t h = h.0
 
 -- number by number
-module _ (v1 v2 : ℕ → Sort) (y1 y2 : ℕ → Bool) (own : List VariableKind) (back r t : ℕ → Ty) (turned : (n : ℕ) → apply back (apply r (t n)) ≡ t n) where
-  number_closed : (n : ℕ) (kinds : List VariableKind) → Fits v1 y1 own t n kinds → Fits v2 y2 own (λ x. apply r (t x)) n kinds → (i m : ℕ) → m ≡ n + i → i < length kinds
+module _ (v1 v2 : ℕ → Sort) (y1 y2 : ℕ → Bool) (own : List VariableKind) (world : World) (back r t : ℕ → Ty) (turned : (n : ℕ) → apply back (apply r (t n)) ≡ t n) where
+  number_closed : (n : ℕ) (kinds : List VariableKind) → Fits v1 y1 own world t n kinds → Fits v2 y2 own world (λ x. apply r (t x)) n kinds → (i m : ℕ) → m ≡ n + i → i < length kinds
       → apply (leftover v1) (t m) ≡ apply (leftover v2) (apply r (t m))
   number_closed n [] g f i m e l = absurd (omega arith)
   number_closed n (k ∷ ks) g f zero m e l =
       let same : n ≡ m = omega arith in
-      let here = type_closed v1 v2 (unknown_sorts own) back r (kind_sort k) (t n) (may_sort v1 y1 own k (t n) g.0) (may_sort v2 y2 own k (apply r (t n)) f.0) (turned n) in
+      let here = type_closed v1 v2 (heads_of world own) back r (kind_sort k) (t n) (may_sort v1 y1 own world k (t n) g.0) (may_sort v2 y2 own world k (apply r (t n)) f.0) (turned n) in
       subst (λ j. apply (leftover v1) (t j) ≡ apply (leftover v2) (apply r (t j))) same here
   number_closed n (k ∷ ks) g f (suc i) m e l = number_closed (suc n) ks g.1 f.1 i m (omega arith) (omega arith)
 
@@ -188,7 +188,7 @@ module _ (world : World) (d : Declaration Bound) (one other : Declaration TypedN
 
   closed_alike : (n : ℕ) → apply (leftover is.sorts) (at n) ≡ apply (leftover two.sorts) (at_other n)
   closed_alike n = elim (in_or_out n (length (declaration_slots world d))) [
-    | inl l ↦ number_closed is.sorts two.sorts is.states two.states (declared_kinds world d) back.by there.by at (turned_at back.by there.by types types_return) 0 (declaration_slots world d)
+    | inl l ↦ number_closed is.sorts two.sorts is.states two.states (declared_kinds world d) world back.by there.by at (turned_at back.by there.by types types_return) 0 (declaration_slots world d)
         (fits_typing is.sorts is.states world d at (subst (IsTyping is.sorts is.states world d) one_is is.typing))
         (fits_typing two.sorts two.states world d at_other (subst (IsTyping two.sorts two.states world d) other_is two.typing)) n n (omega arith) l
     | inr l ↦

@@ -5,7 +5,7 @@ ghost use Rattle.rw_scope_rules.specs.declared.binding.Bound.{Bound};
 ghost use Rattle.rw_tree.specs.Declarations.{Declaration};
 ghost use Rattle.rw_types_solving.specs.declared.term.Sort.{Sort};
 ghost use Rattle.rw_types_solving.specs.Types.{Ty, apply, occurs};
-ghost use Rattle.rw_types_solving.specs.Sorts.{HasSort};
+ghost use Rattle.rw_types_solving.specs.Sorts.{Heads, HasSort};
 ghost use Rattle.rw_types_rules.specs.Schemes.{World, world_of, scheme_at};
 ghost use Rattle.rw_types_rules.specs.TypedTrees.{TypedNode, substituted};
 ghost use Rattle.rw_types_rules.specs.WellTyped.{DeclarationAgrees};
@@ -20,7 +20,7 @@ pub fn substitution_law()
 
 /// A typing is one under each substitution that keeps sorts and the bound on types.
 pub fn typing_law()
-    ensures { (v : ℕ → Sort) (y : ℕ → Bool) (w : ℕ → Sort) (z : ℕ → Bool) (s : ℕ → Ty) (world : World) (d : Declaration Bound) (typed : Declaration TypedNode) → Keeps (scheme_kinds (scheme_at world (declaration_label d).bound)) v y w z s → IsTyping v y world d typed → IsTyping w z world d (substituted s typed) }
+    ensures { (v : ℕ → Sort) (y : ℕ → Bool) (w : ℕ → Sort) (z : ℕ → Bool) (s : ℕ → Ty) (world : World) (d : Declaration Bound) (typed : Declaration TypedNode) → Keeps (scheme_kinds (scheme_at world (declaration_label d).bound)) world v y w z s → IsTyping v y world d typed → IsTyping w z world d (substituted s typed) }
 {}
 
 /// A type without variables is closed in an instance at closed arguments. A closed type stays in each instance and under each
@@ -48,7 +48,7 @@ pub fn instance_law()
 pub fn default_typing_law()
     ensures typing { (world : World) (d : Declaration Bound) (typed : Declaration TypedNode) → IsDefault world d typed → (sorts : ℕ → Sort) (states : ℕ → Bool) → IsTyping sorts states world d typed }
     ensures stays { (s : ℕ → Ty) (world : World) (d : Declaration Bound) (typed : Declaration TypedNode) → IsDefault world d typed → substituted s typed ≡ typed }
-    ensures no_variable { (unknowns : ℕ → Sort) (sort : Sort) (type : Ty) → ((sorts : ℕ → Sort) → HasSort sorts unknowns sort type) → (x : ℕ) → occurs x type ≡ false }
+    ensures no_variable { (heads : Heads) (sort : Sort) (type : Ty) → ((sorts : ℕ → Sort) → HasSort sorts heads sort type) → (x : ℕ) → occurs x type ≡ false }
 {}
 
 /// A declaration has one default typing at most.

@@ -39,7 +39,7 @@ module _ (sorts : ℕ → Sort) (states : ℕ → Bool) (own : List VariableKind
   carry_rest (x ∷ xs) ys c = carry_rest xs ys c.1
 
   -- as many arguments as kinds
-  none_of : (types : List Ty) → MayAllBe sorts states own [] types → 0 ≡ length types
+  none_of : (types : List Ty) → MayAllBe sorts states own world [] types → 0 ≡ length types
   none_of [] h = refl
   none_of (x ∷ xs) h = absurd h
 
@@ -51,7 +51,7 @@ module _ (sorts : ℕ → Sort) (states : ℕ → Bool) (own : List VariableKind
   matched_of None types parts type h = absurd h
   matched_of (Some s) types parts type h = sym h.0
 
-  name_of : (locals : List Ty) (b : Option Binding) (a : TypedNode) → NameAgrees world locals b a → MayAllBe sorts states own (scheme_kinds (scheme_at world b)) a.arguments
+  name_of : (locals : List Ty) (b : Option Binding) (a : TypedNode) → NameAgrees world locals b a → MayAllBe sorts states own world (scheme_kinds (scheme_at world b)) a.arguments
       → length (scheme_kinds (scheme_at world b)) ≡ length a.arguments
   name_of locals None a h c = instance_of (scheme_at world None) a.arguments a.type h
   name_of locals (Some (Local k)) a h c = none_of a.arguments c
@@ -263,7 +263,7 @@ module _ (sorts : ℕ → Sort) (states : ℕ → Bool) (own : List VariableKind
   filled_all type (a ∷ cs) g c =
       joined (λ x y. x ∷ y) (filled_clause [] a g.1 (carry_first (clause_nodes a) (flat_map clause_nodes cs) c)) (filled_all type cs g.2 (carry_rest (clause_nodes a) (flat_map clause_nodes cs) c))
 
-  filled_declaration : (d : Declaration TypedNode) → DeclarationAgrees world d → MayAllBe sorts states own [] (declaration_label d).arguments → Carry (declaration_nodes d)
+  filled_declaration : (d : Declaration TypedNode) → DeclarationAgrees world d → MayAllBe sorts states own world [] (declaration_label d).arguments → Carry (declaration_nodes d)
       → Filled (declaration_slots world (erased d)) (declaration_carried d) (λ t n. labelled_declaration (typed_label t) world n (erased d)) d
   filled_declaration (import_declaration a m) g h c = leaf (λ z. import_declaration z m) [] a (none_of a.arguments h)
   filled_declaration (data_declaration a x params constructors) g h c = leaf (λ z. data_declaration z x params constructors) [] a (none_of a.arguments h)

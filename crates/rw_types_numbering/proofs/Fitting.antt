@@ -140,7 +140,7 @@ module _ (sorts : ℕ → Sort) (states : ℕ → Bool) (own : List VariableKind
 
   -- the label of a declaration, and its nodes
   pub exact_declaration : (n : ℕ) (d : Declaration Bound)
-      → (Carries sorts states own [] (declaration_label (labelled_declaration node world n d)) × NodesCarry sorts states own world (declaration_nodes (labelled_declaration node world n d))) ↔ Fits sorts states own t n (declaration_slots world d)
+      → (Carries sorts states own world [] (declaration_label (labelled_declaration node world n d)) × NodesCarry sorts states own world (declaration_nodes (labelled_declaration node world n d))) ↔ Fits sorts states own world t n (declaration_slots world d)
   exact_declaration n (import_declaration a m) = ((λ h. (h.0.0, tt)), (λ h. ((h.0, tt), tt)))
   exact_declaration n (data_declaration a x params constructors) = ((λ h. (h.0.0, tt)), (λ h. ((h.0, tt), tt)))
   exact_declaration n (fixity_declaration a side strength names) = ((λ h. (h.0.0, tt)), (λ h. ((h.0, tt), tt)))
@@ -151,7 +151,7 @@ module _ (sorts : ℕ → Sort) (states : ℕ → Bool) (own : List VariableKind
 -- the typed tree of an assignment is a typing exactly where its types agree and the assignment fits
 pub typing_is : (sorts : ℕ → Sort) (states : ℕ → Bool) (world : World) (t : ℕ → Ty) (d : Declaration Bound)
     → IsTyping sorts states world d (typed_declaration t world d)
-    ↔ (DeclarationAgrees world (typed_declaration t world d) × Fits sorts states (own_kinds world (typed_declaration t world d)) t 0 (declaration_slots world d))
+    ↔ (DeclarationAgrees world (typed_declaration t world d) × Fits sorts states (own_kinds world (typed_declaration t world d)) world t 0 (declaration_slots world d))
 typing_is sorts states world t d =
     let exact = exact_declaration sorts states (own_kinds world (typed_declaration t world d)) world t 0 d in (
       (λ h. (h.agrees, exact.0 (h.carries, h.nodes_carry))),

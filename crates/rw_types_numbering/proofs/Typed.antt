@@ -40,9 +40,9 @@ pub assigned : (sorts : ℕ → Sort) (states : ℕ → Bool) (world : World) (d
 assigned sorts states world d typed is = let r = from_assignment sorts states world d typed is in (r.0, r.1 ∙ sym (typed_is r.0 world d))
 
 pub typing_exactly : (sorts : ℕ → Sort) (states : ℕ → Bool) (world : World) (t : ℕ → Ty) (d : Declaration Bound) → IsTyping sorts states world d (relabelled_declaration (typed_by t) (numbered_declaration world 0 d))
-    ↔ (DeclarationAgrees world (relabelled_declaration (typed_by t) (numbered_declaration world 0 d)) × Fits sorts states (own_kinds world (relabelled_declaration (typed_by t) (numbered_declaration world 0 d))) t 0 (declaration_slots world d))
+    ↔ (DeclarationAgrees world (relabelled_declaration (typed_by t) (numbered_declaration world 0 d)) × Fits sorts states (own_kinds world (relabelled_declaration (typed_by t) (numbered_declaration world 0 d))) world t 0 (declaration_slots world d))
 typing_exactly sorts states world t d =
-    subst (λ e. IsTyping sorts states world d e ↔ (DeclarationAgrees world e × Fits sorts states (own_kinds world e) t 0 (declaration_slots world d))) (sym (typed_is t world d))
+    subst (λ e. IsTyping sorts states world d e ↔ (DeclarationAgrees world e × Fits sorts states (own_kinds world e) world t 0 (declaration_slots world d))) (sym (typed_is t world d))
     (typing_is sorts states world t d)
 
 arguments_are : (t s r : ℕ → Ty) → ((x : ℕ) → t x ≡ apply r (s x)) → (ns : List ℕ) → map t ns ≡ map (apply r) (map s ns)

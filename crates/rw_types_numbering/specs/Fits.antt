@@ -11,9 +11,9 @@ use Rattle.rw_types_rules.specs.Typings.{MayBe}
 use Rattle.rw_types_numbering.specs.Labelled.{labelled_declaration}
 
 -- the types of the numbers from n on are of these kinds, one for each
-abbrev pub Fits : (ℕ → Sort) → (ℕ → Bool) → List VariableKind → (ℕ → Ty) → ℕ → List VariableKind → Type 0
-Fits sorts states own t n [] = Unit {0}
-Fits sorts states own t n (kind ∷ kinds) = MayBe sorts states own kind (t n) × Fits sorts states own t (suc n) kinds
+abbrev pub Fits : (ℕ → Sort) → (ℕ → Bool) → List VariableKind → World → (ℕ → Ty) → ℕ → List VariableKind → Type 0
+Fits sorts states own world t n [] = Unit {0}
+Fits sorts states own world t n (kind ∷ kinds) = MayBe sorts states own world kind (t n) × Fits sorts states own world t (suc n) kinds
 
 -- the types of so many numbers, from this one on
 abbrev pub types_from : (ℕ → Ty) → ℕ → ℕ → List Ty

@@ -24,7 +24,7 @@ pub fn assignment_law()
 /// The typed tree of an assignment is a typing exactly where its types agree and each number has a type that its kind may
 /// stand for.
 pub fn typing_law()
-    ensures { (sorts : ℕ → Sort) (states : ℕ → Bool) (world : World) (t : ℕ → Ty) (d : Declaration Bound) → IsTyping sorts states world d (typed_declaration t world d) ↔ (DeclarationAgrees world (typed_declaration t world d) × Fits sorts states (own_kinds world (typed_declaration t world d)) t 0 (declaration_slots world d)) }
+    ensures { (sorts : ℕ → Sort) (states : ℕ → Bool) (world : World) (t : ℕ → Ty) (d : Declaration Bound) → IsTyping sorts states world d (typed_declaration t world d) ↔ (DeclarationAgrees world (typed_declaration t world d) × Fits sorts states (own_kinds world (typed_declaration t world d)) world t 0 (declaration_slots world d)) }
 {}
 
 /// The typed tree of an instance of an assignment is the substituted tree.

@@ -30,7 +30,7 @@ pub fn assignment_law()
 /// An assignment of types to the numbers of a declaration is a typing exactly where its types agree and each number has a type
 /// that its kind may stand for.
 pub fn typing_law()
-    ensures { (sorts : ℕ → Sort) (states : ℕ → Bool) (world : World) (t : ℕ → Ty) (d : Declaration Bound) → IsTyping sorts states world d (relabelled_declaration (typed_by t) (numbered_declaration world 0 d)) ↔ (DeclarationAgrees world (relabelled_declaration (typed_by t) (numbered_declaration world 0 d)) × Fits sorts states (own_kinds world (relabelled_declaration (typed_by t) (numbered_declaration world 0 d))) t 0 (declaration_slots world d)) }
+    ensures { (sorts : ℕ → Sort) (states : ℕ → Bool) (world : World) (t : ℕ → Ty) (d : Declaration Bound) → IsTyping sorts states world d (relabelled_declaration (typed_by t) (numbered_declaration world 0 d)) ↔ (DeclarationAgrees world (relabelled_declaration (typed_by t) (numbered_declaration world 0 d)) × Fits sorts states (own_kinds world (relabelled_declaration (typed_by t) (numbered_declaration world 0 d))) world t 0 (declaration_slots world d)) }
 {}
 
 /// An instance of an assignment gives the substituted tree.

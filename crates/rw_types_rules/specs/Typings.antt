@@ -1,6 +1,7 @@
 -- Typings of a declaration: when it has one, the most general one, and the default.
-use Rattle.std.specs.Prelude.{◌≡◌, ℕ, ◌≤◌, Bool, true, false, List, [], ◌∷◌, get_or, Option, Some, None}
+use Rattle.std.specs.Prelude.{◌≡◌, ℕ, ◌≤◌, Bool, true, false, List, [], ◌∷◌, length, get_or, Option, Some, None}
 use Rattle.rw_scope_rules.specs.declared.binding.Operation.TheVariants.{Bind, Then}
+use Rattle.rw_scope_rules.specs.declared.binding.Binding.TheVariants.{Constructor as Constructs}
 use Rattle.rw_scope_rules.specs.declared.binding.Bound.{Bound}
 use Rattle.rw_scope_rules.specs.Nodes.{Node, expression_node, pattern_node, clause_node, group_node, binding_node, statement_node, declaration_nodes}
 use Rattle.rw_tree.specs.Patterns.{Pattern, constructor_pattern}
@@ -9,7 +10,7 @@ use Rattle.rw_tree.specs.Declarations.{Declaration, import_declaration, data_dec
 use Rattle.rw_types_solving.specs.declared.term.Sort.{Sort}
 use Rattle.rw_types_solving.specs.declared.term.Sort.TheVariants as s
 use Rattle.rw_types_solving.specs.Types.{Ty, nodes}
-use Rattle.rw_types_solving.specs.Sorts.{HasSort}
+use Rattle.rw_types_solving.specs.Sorts.{Heads, HasSort}
 use Rattle.rw_types_solving.specs.Tables.{most}
 use Rattle.rw_types_solving.specs.Conditions.{is_state_monad}
 use Rattle.rw_types_solving.specs.Closing.{closed_as}
@@ -43,11 +44,24 @@ abbrev pub scheme_kinds : Option Scheme → List VariableKind
 scheme_kinds None = []
 scheme_kinds (Some scheme) = scheme.kinds
 
--- over the sorts of the variables of a typing, which of them stand for state monads or for layers `StateT s`, and the kinds of the unknown types
-module _ (sorts : ℕ → Sort) (states : ℕ → Bool) (own : List VariableKind) where
+-- how many variables the scheme of a constructor has: one for each parameter of its data type
+abbrev pub as_many_kinds : Option Scheme → Option ℕ
+as_many_kinds None = None
+as_many_kinds (Some scheme) = Some (length scheme.kinds)
+
+-- how many parameters the data declaration with this number has; none where it is no data declaration. Each has a constructor
+abbrev pub arity_of : World → ℕ → Option ℕ
+arity_of world n = as_many_kinds (scheme_at world (Some (Constructs n 0)))
+
+-- what is known of heads in a declaration whose signature has variables of these kinds
+abbrev pub heads_of : World → List VariableKind → Heads
+heads_of world own = record { unknowns = unknown_sorts own; arity = arity_of world }
+
+-- over the sorts of the variables of a typing, which of them stand for state monads or for layers `StateT s`, the kinds of the unknown types, and the world
+module _ (sorts : ℕ → Sort) (states : ℕ → Bool) (own : List VariableKind) (world : World) where
   -- a type of this sort, of at most 1,024 nodes
   abbrev pub IsType : Sort → Ty → Type 0
-  IsType sort type = HasSort sorts (unknown_sorts own) sort type × (nodes type ≤ most)
+  IsType sort type = HasSort sorts (heads_of world own) sort type × (nodes type ≤ most)
 
   -- what a variable of this kind may stand for
   abbrev pub MayBe : VariableKind → Ty → Type 0
@@ -65,33 +79,32 @@ module _ (sorts : ℕ → Sort) (states : ℕ → Bool) (own : List VariableKind
 
   -- == Nodes ==
 
-  module _ (world : World) where
-    -- the kinds of the arguments of a node
-    abbrev pub expression_kinds : Expression TypedNode → List VariableKind
-    expression_kinds (variable a x) = scheme_kinds (scheme_at world a.node.bound)
-    expression_kinds (constructor a c) = scheme_kinds (scheme_at world a.node.bound)
-    expression_kinds _ = []
+  -- the kinds of the arguments of a node
+  abbrev pub expression_kinds : Expression TypedNode → List VariableKind
+  expression_kinds (variable a x) = scheme_kinds (scheme_at world a.node.bound)
+  expression_kinds (constructor a c) = scheme_kinds (scheme_at world a.node.bound)
+  expression_kinds _ = []
 
-    abbrev pub pattern_kinds : Pattern TypedNode → List VariableKind
-    pattern_kinds (constructor_pattern a c parts) = scheme_kinds (scheme_at world a.node.bound)
-    pattern_kinds _ = []
+  abbrev pub pattern_kinds : Pattern TypedNode → List VariableKind
+  pattern_kinds (constructor_pattern a c parts) = scheme_kinds (scheme_at world a.node.bound)
+  pattern_kinds _ = []
 
-    -- each node carries a type, and arguments for its instance, if it is of one
-    abbrev pub NodeCarries : Node TypedNode → Type 0
-    NodeCarries (expression_node e) = Carries (expression_kinds e) (expression_label e)
-    NodeCarries (pattern_node p) = Carries (pattern_kinds p) (pattern_label p)
-    NodeCarries (clause_node (alternative a pats side wheres)) = Carries [] a
-    NodeCarries (group_node group) = Unit {0}
-    NodeCarries (binding_node (local_signature a x type)) = Carries [] a
-    NodeCarries (binding_node (local_function a x clauses)) = Carries [] a
-    NodeCarries (binding_node (local_pattern a bound)) = Carries [] a
-    NodeCarries (statement_node (bind_statement a p e)) = Carries (operation_scheme Bind).kinds a
-    NodeCarries (statement_node (let_statement a group)) = Carries [] a
-    NodeCarries (statement_node (run_statement a e)) = Carries (operation_scheme Then).kinds a
+  -- each node carries a type, and arguments for its instance, if it is of one
+  abbrev pub NodeCarries : Node TypedNode → Type 0
+  NodeCarries (expression_node e) = Carries (expression_kinds e) (expression_label e)
+  NodeCarries (pattern_node p) = Carries (pattern_kinds p) (pattern_label p)
+  NodeCarries (clause_node (alternative a pats side wheres)) = Carries [] a
+  NodeCarries (group_node group) = Unit {0}
+  NodeCarries (binding_node (local_signature a x type)) = Carries [] a
+  NodeCarries (binding_node (local_function a x clauses)) = Carries [] a
+  NodeCarries (binding_node (local_pattern a bound)) = Carries [] a
+  NodeCarries (statement_node (bind_statement a p e)) = Carries (operation_scheme Bind).kinds a
+  NodeCarries (statement_node (let_statement a group)) = Carries [] a
+  NodeCarries (statement_node (run_statement a e)) = Carries (operation_scheme Then).kinds a
 
-    abbrev pub NodesCarry : List (Node TypedNode) → Type 0
-    NodesCarry [] = Unit {0}
-    NodesCarry (n ∷ ns) = NodeCarries n × NodesCarry ns
+  abbrev pub NodesCarry : List (Node TypedNode) → Type 0
+  NodesCarry [] = Unit {0}
+  NodesCarry (n ∷ ns) = NodeCarries n × NodesCarry ns
 
 -- == Typings ==
 
@@ -110,7 +123,7 @@ own_kinds world d = scheme_kinds (scheme_at world (declaration_label d).node.bou
 pub record IsTyping (sorts : ℕ → Sort) (states : ℕ → Bool) (world : World) (d : Declaration Bound) (typed : Declaration TypedNode) : Type 0 where
   pub erases : erased typed ≡ d
   pub agrees : DeclarationAgrees world typed
-  pub carries : Carries sorts states (own_kinds world typed) [] (declaration_label typed)
+  pub carries : Carries sorts states (own_kinds world typed) world [] (declaration_label typed)
   pub nodes_carry : NodesCarry sorts states (own_kinds world typed) world (declaration_nodes typed)
 
 -- a declaration that has a typing

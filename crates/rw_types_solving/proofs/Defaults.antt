@@ -5,7 +5,7 @@ use Rattle.rw_types_solving.specs.declared.term.Head.TheVariants as h
 use Rattle.rw_types_solving.specs.declared.term.Sort.{Sort}
 use Rattle.rw_types_solving.specs.declared.term.Sort.TheVariants as s
 use Rattle.rw_types_solving.specs.Types.{Ty, Tys, var, app, none, more, apply, apply_in, nodes, nodes_in, own, parts, is_known_layer, occurs}
-use Rattle.rw_types_solving.specs.Sorts.{HasSort, HasSorts, Fits, part_sort}
+use Rattle.rw_types_solving.specs.Sorts.{Heads, HasSort, HasSorts, Fits, part_sort}
 use Rattle.rw_types_solving.specs.Tables.{most, Small, Uses}
 use Rattle.rw_types_solving.specs.Conditions.{is_state_layer, is_state_monad, are_stacked, hold, any, no_one}
 use Rattle.rw_types_solving.specs.Closing.{closed_as, closing_at, closing, sort_of, AreMonads}
@@ -32,18 +32,18 @@ closing_beyond : (sorts : List Sort) (x : ℕ) → length sorts ≤ x → closin
 closing_beyond sorts x l = ap (closing_at x) (none_beyond sorts x l)
 
 -- sorts
-closed_sort : (v w : ℕ → Sort) (k : Sort) → HasSort v w k (closed_as k)
+closed_sort : (v : ℕ → Sort) (w : Heads) (k : Sort) → HasSort v w k (closed_as k)
 closed_sort v w s.Plain = (refl, tt)
 closed_sort v w s.Monad = (refl, refl)
 closed_sort v w s.Layer = (refl, ((refl, tt), refl))
 
-closing_sort : (w : ℕ → Sort) (sorts : List Sort) (x : ℕ) → HasSort (sort_of sorts) w (sort_of sorts x) (closing sorts x)
+closing_sort : (w : Heads) (sorts : List Sort) (x : ℕ) → HasSort (sort_of sorts) w (sort_of sorts x) (closing sorts x)
 closing_sort w sorts x = elim (in_or_out x (length sorts)) [
   | inl l ↦ subst (HasSort (sort_of sorts) w (sort_of sorts x)) (sym (closing_inside sorts x l)) (closed_sort (sort_of sorts) w (sort_of sorts x))
   | inr l ↦ subst (HasSort (sort_of sorts) w (sort_of sorts x)) (sym (closing_beyond sorts x l)) refl
 ]
 
-pub closed_sorted : (w : ℕ → Sort) (sorts : List Sort) (r d : ℕ → Ty) → ((x : ℕ) → HasSort (sort_of sorts) w (sort_of sorts x) (r x)) → ((x : ℕ) → d x ≡ apply (closing sorts) (r x))
+pub closed_sorted : (w : Heads) (sorts : List Sort) (r d : ℕ → Ty) → ((x : ℕ) → HasSort (sort_of sorts) w (sort_of sorts x) (r x)) → ((x : ℕ) → d x ≡ apply (closing sorts) (r x))
     → (x : ℕ) → HasSort (sort_of sorts) w (sort_of sorts x) (d x)
 closed_sorted w sorts r d g e x =
     subst (HasSort (sort_of sorts) w (sort_of sorts x)) (sym (e x)) (sort_apply (closing sorts) (sort_of sorts) (sort_of sorts) w (sort_of sorts x) (r x) (closing_sort w sorts) (g x))
@@ -69,7 +69,7 @@ abbrev pub is_first : ℕ → Bool
 is_first zero = true
 is_first (suc i) = false
 
-module _ (r : ℕ → Ty) (v w : ℕ → Sort) (q u : ℕ → Bool) (mo : (x : ℕ) → v x ≡ s.Monad → is_state_monad q u (r x) ≡ true) (la : (x : ℕ) → v x ≡ s.Layer → is_state_layer q (r x) ≡ true) where
+module _ (r : ℕ → Ty) (v : ℕ → Sort) (w : Heads) (q u : ℕ → Bool) (mo : (x : ℕ) → v x ≡ s.Monad → is_state_monad q u (r x) ≡ true) (la : (x : ℕ) → v x ≡ s.Layer → is_state_layer q (r x) ≡ true) where
   layer_on : (t : Ty) → HasSort v w s.Layer t → is_state_layer any t ≡ true → is_state_layer q (apply r t) ≡ true
   layer_on (var x) g e = la x g
   layer_on (app h ts) g e = layer_app q any h (apply_in r ts) ts ∙ e
@@ -117,7 +117,7 @@ closed_layer sorts x e = elim (in_or_out x (length sorts)) [
   | inr l ↦ let c : s.Plain ≡ s.Layer = sym (plain_beyond sorts x l) ∙ e in absurd (cc)
 ]
 
-pub closed_holds : (w : ℕ → Sort) (u : ℕ → Bool) (sorts : List Sort) (r d : ℕ → Ty) (xs : List ℕ) → ((x : ℕ) → HasSort (sort_of sorts) w (sort_of sorts x) (r x))
+pub closed_holds : (w : Heads) (u : ℕ → Bool) (sorts : List Sort) (r d : ℕ → Ty) (xs : List ℕ) → ((x : ℕ) → HasSort (sort_of sorts) w (sort_of sorts x) (r x))
     → ((x : ℕ) → d x ≡ apply (closing sorts) (r x)) → AreMonads (sort_of sorts) xs → hold any u r xs ≡ true → hold no_one u d xs ≡ true
 closed_holds w u sorts r d [] g e a b = refl
 closed_holds w u sorts r d (x ∷ xs) g e a b =
@@ -139,9 +139,9 @@ bare_zero : (t : Ty) (k : Sort) → layer_one k ≡ 0 → bare t k ≡ 0
 bare_zero (var x) k e = e
 bare_zero (app h ts) k e = refl
 
-fits_parts : (v w : ℕ → Sort) (g : Head) (i : ℕ) (ts : Tys) → HasSorts v w g i ts → Fits g (i + parts ts)
-fits_parts v w g i none f = subst (Fits g) (omega arith) f
-fits_parts v w g i (more t ts) f = subst (Fits g) (omega arith) (fits_parts v w g (suc i) ts f.1)
+fits_parts : (v : ℕ → Sort) (w : Heads) (g : Head) (i : ℕ) (ts : Tys) → HasSorts v w g i ts → Fits w g (i + parts ts)
+fits_parts v w g i none f = subst (Fits w g) (omega arith) f
+fits_parts v w g i (more t ts) f = subst (Fits w g) (omega arith) (fits_parts v w g (suc i) ts f.1)
 
 two_parts : (a : ℕ) → suc a ≡ 2 → nat_eq a 1 ≡ true
 two_parts a e = same_is a 1 (omega arith)
@@ -154,7 +154,7 @@ comp_free : (j : ℕ) → 0 ≤ j → layer_one (part_sort h.Comp j) ≡ 0
 comp_free zero l = refl
 comp_free (suc j) l = refl
 
-module _ (r : ℕ → Ty) (v w : ℕ → Sort) (one : (x : ℕ) → nodes (r x) ≡ 1 + layer_one (v x)) (known : (x : ℕ) → v x ≡ s.Layer → is_known_layer (r x) ≡ true) where
+module _ (r : ℕ → Ty) (v : ℕ → Sort) (w : Heads) (one : (x : ℕ) → nodes (r x) ≡ 1 + layer_one (v x)) (known : (x : ℕ) → v x ≡ s.Layer → is_known_layer (r x) ≡ true) where
   layer_nodes : (l : Ty) (ms : Tys) → HasSort v w s.Layer l → HasSorts v w h.Layer 1 ms → nodes (apply r l) ≡ nodes l + bare l s.Layer → nodes_in (apply_in r ms) ≡ nodes_in ms
       → nodes (apply r l) + nodes_in (apply_in r ms) + own h.Layer (more (apply r l) (apply_in r ms)) ≡ nodes l + nodes_in ms + own h.Layer (more l ms)
   layer_nodes (var x) ms g f i j =
@@ -213,7 +213,7 @@ bare_small : (c : Ty) (k : Sort) → nodes c ≤ most → nodes c + bare c k ≤
 bare_small (var x) k l = let m = layer_most k in omega arith
 bare_small (app h ts) k l = omega arith
 
-pub closed_small : (w : ℕ → Sort) (sorts : List Sort) (n : ℕ) (r d : ℕ → Ty) → ((x : ℕ) → HasSort (sort_of sorts) w (sort_of sorts x) (r x)) → ((x : ℕ) → d x ≡ apply (closing sorts) (r x))
+pub closed_small : (w : Heads) (sorts : List Sort) (n : ℕ) (r d : ℕ → Ty) → ((x : ℕ) → HasSort (sort_of sorts) w (sort_of sorts x) (r x)) → ((x : ℕ) → d x ≡ apply (closing sorts) (r x))
     → Small n r → Small n d
 closed_small w sorts n r d g e small x l =
     let a = same_nodes (closing sorts) (sort_of sorts) w (closing_one sorts) (closing_known sorts) (sort_of sorts x) (r x) (g x) in

@@ -3,7 +3,7 @@ use Rattle.std.proofs.Common.{◌^◌, ◌≡◌, ℕ, zero, suc, ◌<◌, false
 use Rattle.std.proofs.lemmas.Bool.Decides.{nat_tests}
 use Rattle.rw_types_solving.specs.declared.term.Sort.{Sort}
 use Rattle.rw_types_solving.specs.Types.{Ty, var, app, apply, single, after, Agrees}
-use Rattle.rw_types_solving.specs.Sorts.{HasSort}
+use Rattle.rw_types_solving.specs.Sorts.{Heads, HasSort}
 use Rattle.rw_types_solving.specs.Tables.{type_at, Meets, Solves, Follows, FollowsAt, Falls, IsSorted, IsTable, Uses}
 use Rattle.rw_types_solving.specs.Inside.{opens}
 use Rattle.rw_types_solving.proofs.Laws.{true_or_false, is_same, itself}
@@ -133,13 +133,13 @@ module _ (old : List (Option Ty)) (x : ℕ) (u : Ty) (k : Next old x u) where
     | inr p ↦ rw p (h y)
   ])
 
-  pub sorted_back : (v w : ℕ → Sort) → IsSorted v w (set old x (Some u)) → IsSorted v w old
+  pub sorted_back : (v : ℕ → Sort) (w : Heads) → IsSorted v w (set old x (Some u)) → IsSorted v w old
   sorted_back v w h y a e = elim (true_or_false (nat_eq x y)) [
     | inl p ↦ let same = is_same x y p in let n : type_at old y ≡ None = subst (λ z. type_at old z ≡ None) same was_none in let c : Some a ≡ None = sym e ∙ n in absurd (cc)
     | inr p ↦ h y a (now_at y ∙ rw p e)
   ]
 
-  pub sorted_on : (v w : ℕ → Sort) → IsSorted v w old → HasSort v w (v x) u → IsSorted v w (set old x (Some u))
+  pub sorted_on : (v : ℕ → Sort) (w : Heads) → IsSorted v w old → HasSort v w (v x) u → IsSorted v w (set old x (Some u))
   sorted_on v w h g y a e = elim (true_or_false (nat_eq x y)) [
     | inl p ↦ let c : cond (nat_eq x y) (Some u) (type_at old y) ≡ Some a = sym (now_at y) ∙ e in
         let b : Some u ≡ Some a = (rw p at c) in
@@ -148,7 +148,7 @@ module _ (old : List (Option Ty)) (x : ℕ) (u : Ty) (k : Next old x u) where
         let b : type_at old y ≡ Some a = (rw p at c) in h y a b
   ]
 
-  sorted_new : (v w : ℕ → Sort) → IsSorted v w (set old x (Some u)) → HasSort v w (v x) u
+  sorted_new : (v : ℕ → Sort) (w : Heads) → IsSorted v w (set old x (Some u)) → HasSort v w (v x) u
   sorted_new v w h = h x u (now_at x ∙ (let p = itself x in rw p refl))
 
   next_within : (y : ℕ) → y < length (set old x (Some u)) → Uses (length (set old x (Some u))) (after (single x u) k.solved.sub y)
@@ -175,7 +175,7 @@ none_meets t x o e = rw e tt
 pub free_solves : (table : List (Option Ty)) → ((x : ℕ) → type_at table x ≡ None) → (t : ℕ → Ty) → Solves t table
 free_solves table n t x = none_meets t x (type_at table x) (n x)
 
-pub free_sorted : (table : List (Option Ty)) → ((x : ℕ) → type_at table x ≡ None) → (v w : ℕ → Sort) → IsSorted v w table
+pub free_sorted : (table : List (Option Ty)) → ((x : ℕ) → type_at table x ≡ None) → (v : ℕ → Sort) (w : Heads) → IsSorted v w table
 free_sorted table n v w x u e = let c : Some u ≡ None = sym e ∙ n x in absurd (cc)
 
 pub free_table : (table : List (Option Ty)) → length table < 2 ^ 32 → ((x : ℕ) → type_at table x ≡ None) → IsTable table

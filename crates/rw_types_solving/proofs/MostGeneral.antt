@@ -5,7 +5,7 @@ use Rattle.rw_types_solving.specs.declared.term.Sort.{Sort}
 use Rattle.rw_types_solving.specs.declared.term.Term.{Term}
 use Rattle.rw_types_solving.specs.declared.term.Term.TheVariants as w
 use Rattle.rw_types_solving.specs.Types.{Ty, var, plain, plains, apply, nodes, after, Agrees, meaning}
-use Rattle.rw_types_solving.specs.Sorts.{HasSort}
+use Rattle.rw_types_solving.specs.Sorts.{Heads, HasSort}
 use Rattle.rw_types_solving.specs.Tables.{most, type_at, equations, Solves, Follows, FollowsAt, IsTable, IsMostGeneral, IsSorted, Small, Uses}
 use Rattle.rw_types_solving.specs.Conditions.{hold, any}
 use Rattle.rw_types_solving.specs.Closing.{closing, closing_at, closed_as, IsDefault, HasNone}
@@ -120,7 +120,7 @@ module _ (es : List (Option Term)) (made : List Term) (k : IsTable (equations es
   pub made_within : (x : ℕ) → x < length es → Uses (length es) (meaning made x)
   made_within = subst (λ n. (x : ℕ) → x < n → Uses n (meaning made x)) (length_equations es) (subst (λ z. (x : ℕ) → x < length (equations es) → Uses (length (equations es)) (z x)) (sym all_is) k.within)
 
-  pub made_sorted : (v q : ℕ → Sort) → IsSorted v q (equations es) → (x : ℕ) → HasSort v q (v x) (meaning made x)
+  pub made_sorted : (v : ℕ → Sort) (q : Heads) → IsSorted v q (equations es) → (x : ℕ) → HasSort v q (v x) (meaning made x)
   made_sorted v q i = subst (λ z. (x : ℕ) → HasSort v q (v x) (z x)) (sym all_is) (k.sorted v q i)
 
 pub none_small : (es : List (Option Term)) (k : IsTable (equations es)) → ((s : ℕ → Ty) → Follows (equations es) s → Small (length es) s → ⊥)

@@ -2,7 +2,7 @@
 use Rattle.std.proofs.Common.{◌≡◌, ℕ, ◌<◌, true, false, refl, sym, ◌∙◌, ap, subst, arith, inl, inr, Option, Some, List, length, set}
 use Rattle.rw_types_solving.specs.declared.term.Sort.{Sort}
 use Rattle.rw_types_solving.specs.Types.{Ty, var, app, apply, nodes, occurs}
-use Rattle.rw_types_solving.specs.Sorts.{HasSort}
+use Rattle.rw_types_solving.specs.Sorts.{Heads, HasSort}
 use Rattle.rw_types_solving.specs.Tables.{Solves, Uses, Narrowed, NoneWithin, IsSorted, IsTable}
 use Rattle.rw_types_solving.specs.Inside.{Difference, Same, Clash, At, difference, ComesTo, IsLarger, opens}
 use Rattle.rw_types_solving.proofs.Laws.{either, is_same, size_bound, size_grows, endless}
@@ -16,7 +16,7 @@ pub record Going (old : List (Option Ty)) (a b : Ty) (now : List (Option Ty)) : 
   pub as_many : length now ≡ length old
   pub back : (t : ℕ → Ty) → Solves t now → Solves t old
   pub on : (t : ℕ → Ty) → Solves t old → apply t a ≡ apply t b → Solves t now
-  pub sorted : (v w : ℕ → Sort) (k : Sort) → IsSorted v w old → HasSort v w k a → HasSort v w k b → IsSorted v w now
+  pub sorted : (v : ℕ → Sort) (w : Heads) (k : Sort) → IsSorted v w old → HasSort v w k a → HasSort v w k b → IsSorted v w now
 
 pub going_start : (old : List (Option Ty)) (a b : Ty) → IsTable old → Going old a b old
 going_start old a b h = record { table = h; as_many = refl; back = λ t k. k; on = λ t k e. k; sorted = λ v w k h i j. h }
@@ -108,7 +108,7 @@ module _ (old : List (Option Ty)) (a b : Ty) (now : List (Option Ty)) (g : Going
       step = the_step;
     }
 
-    sorted_at : (v w : ℕ → Sort) (k : Sort) → IsSorted v w now → HasSort v w k a → HasSort v w k b → HasSort v w (v x) u
+    sorted_at : (v : ℕ → Sort) (w : Heads) (k : Sort) → IsSorted v w now → HasSort v w k a → HasSort v w k b → HasSort v w (v x) u
     sorted_at v w k h i j =
         let sub = g.table.sorted v w h in
         (telling (At x u) d).2 v w k (subst (HasSort v w k) (sym left_is) (sort_apply g.table.sub v v w k a sub i))

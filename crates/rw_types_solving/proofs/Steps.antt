@@ -3,7 +3,7 @@ use Rattle.std.proofs.Common.{◌≤◌, ◌≡◌, ℕ, suc, ◌<◌, Bool, tru
 use Rattle.rw_types_solving.specs.declared.term.Sort.{Sort}
 use Rattle.rw_types_solving.specs.declared.term.Head.{Head}
 use Rattle.rw_types_solving.specs.Types.{top, top_in, Ty, Tys, var, app, none, more, apply, apply_in, occurs, occurs_in, single, after, Agrees}
-use Rattle.rw_types_solving.specs.Sorts.{HasSort, HasSorts, part_sort}
+use Rattle.rw_types_solving.specs.Sorts.{Heads, HasSort, HasSorts, part_sort}
 use Rattle.rw_types_solving.specs.Tables.{Uses, FollowsAt}
 use Rattle.rw_types_solving.proofs.Laws.{true_or_false, either, or_right, is_same, same_is, compose, alike, alike_all, stays, not_there, single_there}
 
@@ -87,15 +87,15 @@ uses_single n x u h z l y = elim (true_or_false (nat_eq x z)) [
 
 -- a substitution that keeps sorts keeps the sort of a type
 mutual
-  pub sort_apply : (r : ℕ → Ty) (v q w : ℕ → Sort) (k : Sort) (t : Ty) → ((x : ℕ) → HasSort q w (v x) (r x)) → HasSort v w k t → HasSort q w k (apply r t)
+  pub sort_apply : (r : ℕ → Ty) (v q : ℕ → Sort) (w : Heads) (k : Sort) (t : Ty) → ((x : ℕ) → HasSort q w (v x) (r x)) → HasSort v w k t → HasSort q w k (apply r t)
   sort_apply r v q w k (var x) h e = subst (λ z. HasSort q w z (r x)) e (h x)
   sort_apply r v q w k (app g ts) h e = (e.0, sort_apply_in r v q w g 0 ts h e.1)
 
-  pub sort_apply_in : (r : ℕ → Ty) (v q w : ℕ → Sort) (g : Head) (i : ℕ) (ts : Tys) → ((x : ℕ) → HasSort q w (v x) (r x)) → HasSorts v w g i ts → HasSorts q w g i (apply_in r ts)
+  pub sort_apply_in : (r : ℕ → Ty) (v q : ℕ → Sort) (w : Heads) (g : Head) (i : ℕ) (ts : Tys) → ((x : ℕ) → HasSort q w (v x) (r x)) → HasSorts v w g i ts → HasSorts q w g i (apply_in r ts)
   sort_apply_in r v q w g i none h e = e
   sort_apply_in r v q w g i (more t ts) h e = (sort_apply r v q w (part_sort g i) t h e.0, sort_apply_in r v q w g (suc i) ts h e.1)
 
-pub sort_single : (v w : ℕ → Sort) (x : ℕ) (u : Ty) → HasSort v w (v x) u → (y : ℕ) → HasSort v w (v y) (single x u y)
+pub sort_single : (v : ℕ → Sort) (w : Heads) (x : ℕ) (u : Ty) → HasSort v w (v x) u → (y : ℕ) → HasSort v w (v y) (single x u y)
 sort_single v w x u h y = elim (true_or_false (nat_eq x y)) [
   | inl e ↦ rw e (subst (λ z. HasSort v w (v z) u) (is_same x y e) h)
   | inr e ↦ rw e refl

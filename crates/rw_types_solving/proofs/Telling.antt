@@ -4,7 +4,7 @@ use Rattle.std.proofs.lemmas.Bool.Decides.{nat_tests}
 use Rattle.rw_types_solving.specs.declared.term.Head.{Head}
 use Rattle.rw_types_solving.specs.declared.term.Sort.{Sort}
 use Rattle.rw_types_solving.specs.Types.{Ty, Tys, var, app, none, more, apply, apply_in, occurs, occurs_in, same_head}
-use Rattle.rw_types_solving.specs.Sorts.{HasSort, HasSorts, part_sort}
+use Rattle.rw_types_solving.specs.Sorts.{Heads, HasSort, HasSorts, part_sort}
 use Rattle.rw_types_solving.specs.Inside.{Difference, Same, Clash, At, or_else, difference, differences}
 use Rattle.rw_types_solving.proofs.Laws.{true_or_false, or_right, is_same, itself, head_is, head_self}
 
@@ -25,14 +25,14 @@ Tells Same a b = a ≡ b
 Tells Clash a b = (s : ℕ → Ty) → apply s a ≡ apply s b → ⊥
 Tells (At x t) a b =
     Parts x t (seen a b) × ((s : ℕ → Ty) → apply s a ≡ apply s b → s x ≡ apply s t)
-    × ((v w : ℕ → Sort) (k : Sort) → HasSort v w k a → HasSort v w k b → HasSort v w (v x) t)
+    × ((v : ℕ → Sort) (w : Heads) (k : Sort) → HasSort v w k a → HasSort v w k b → HasSort v w (v x) t)
 
 abbrev pub TellsIn : Difference → Tys → Tys → Type 0
 TellsIn Same a b = a ≡ b
 TellsIn Clash a b = (s : ℕ → Ty) → apply_in s a ≡ apply_in s b → ⊥
 TellsIn (At x t) a b =
     Parts x t (seen_in a b) × ((s : ℕ → Ty) → apply_in s a ≡ apply_in s b → s x ≡ apply s t)
-    × ((v w : ℕ → Sort) (h : Head) (i : ℕ) → HasSorts v w h i a → HasSorts v w h i b → HasSort v w (v x) t)
+    × ((v : ℕ → Sort) (w : Heads) (h : Head) (i : ℕ) → HasSorts v w h i a → HasSorts v w h i b → HasSort v w (v x) t)
 
 or_left : (a b : Bool) → a ≡ true → (a || b) ≡ true
 or_left a b e = rw e refl
@@ -85,7 +85,7 @@ var_var x y = elim (true_or_false (nat_eq x y)) [
   ])
 ]
 
-at_sort : (v w : ℕ → Sort) (k : Sort) (x : ℕ) (t : Ty) → v x ≡ k → HasSort v w k t → HasSort v w (v x) t
+at_sort : (v : ℕ → Sort) (w : Heads) (k : Sort) (x : ℕ) (t : Ty) → v x ≡ k → HasSort v w k t → HasSort v w (v x) t
 at_sort v w k x t e h = subst (λ z. HasSort v w z t) (sym e) h
 
 var_app : (x : ℕ) (k : Head) (us : Tys) → Tells (At x (app k us)) (var x) (app k us)

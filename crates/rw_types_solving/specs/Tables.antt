@@ -3,7 +3,7 @@ use Rattle.std.specs.Prelude.{◌≡◌, ◌↔◌, ℕ, ◌<◌, ◌≤◌, ◌
 use Rattle.rw_types_solving.specs.declared.term.Sort.{Sort}
 use Rattle.rw_types_solving.specs.declared.term.Term.{Term}
 use Rattle.rw_types_solving.specs.Types.{Ty, var, plain, apply, nodes, occurs, Agrees}
-use Rattle.rw_types_solving.specs.Sorts.{HasSort}
+use Rattle.rw_types_solving.specs.Sorts.{Heads, HasSort}
 
 -- the most nodes of a type
 abbrev pub most : ℕ
@@ -46,7 +46,7 @@ abbrev pub NoneWithin : List (Option Ty) → Ty → Ty → Type 0
 NoneWithin old a b = (t : ℕ → Ty) → Solves t old → apply t a ≡ apply t b → nodes (apply t a) ≤ most → ⊥
 
 -- each equation joins two types of one sort
-abbrev pub IsSorted : (ℕ → Sort) → (ℕ → Sort) → List (Option Ty) → Type 0
+abbrev pub IsSorted : (ℕ → Sort) → Heads → List (Option Ty) → Type 0
 IsSorted v w table = (x : ℕ) (u : Ty) → type_at table x ≡ Some u → HasSort v w (v x) u
 
 -- s is what the table comes to: a variable with an equation is what its type comes to, every other stands for itself
@@ -70,7 +70,7 @@ pub record IsTable (table : List (Option Ty)) : Type 0 where
   pub follows : Follows table sub
   pub general : (t : ℕ → Ty) → Solves t table → Agrees t sub
   pub within : (x : ℕ) → x < length table → Uses (length table) (sub x)
-  pub sorted : (v w : ℕ → Sort) → IsSorted v w table → (x : ℕ) → HasSort v w (v x) (sub x)
+  pub sorted : (v : ℕ → Sort) (w : Heads) → IsSorted v w table → (x : ℕ) → HasSort v w (v x) (sub x)
 
 -- each solution is an instance of s, and each instance of s is a solution
 abbrev pub IsMostGeneral : List (Option Ty) → (ℕ → Ty) → Type 0

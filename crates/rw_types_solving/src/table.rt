@@ -2,7 +2,7 @@
 ghost use Rattle.std.specs.Prelude.{◌≡◌, ◌<◌, true, false, ℕ, IfOk, Err, length};
 ghost use Rattle.rw_types_solving.specs.declared.term.Sort.{Sort};
 ghost use Rattle.rw_types_solving.specs.Types.{Ty, plain, meaning, occurs};
-ghost use Rattle.rw_types_solving.specs.Sorts.{HasSort};
+ghost use Rattle.rw_types_solving.specs.Sorts.{Heads, HasSort};
 ghost use Rattle.rw_types_solving.specs.Tables.{equations, Solves, Uses, Narrowed, NoneWithin, IsSorted, IsTable, IsMostGeneral, Small};
 ghost use Rattle.rw_types_solving.specs.Conditions.{listed, hold, no_one};
 ghost use Rattle.rw_types_solving.specs.Closing.{IsDefault, HasNone, AreMonads, sort_of};
@@ -44,7 +44,7 @@ impl Table {
         ensures table { IfOk result (λ made. IsTable (equations made)) }
         ensures as_many { IfOk result (λ made. length made ≡ variables) }
         ensures free { IfOk result (λ made. (t : ℕ → Ty) → Solves t (equations made)) }
-        ensures sorted { IfOk result (λ made. (v w : ℕ → Sort) → IsSorted v w (equations made)) }
+        ensures sorted { IfOk result (λ made. (v : ℕ → Sort) (w : Heads) → IsSorted v w (equations made)) }
         ensures refused { result ≡ Err (fail.Refused (record {})) → ⊥ }
     {
         let mut entries = Items::new(alloc);
@@ -70,7 +70,7 @@ impl Table {
         ensures table { IfOk result (λ _. IsTable (equations self.new)) }
         ensures as_many { IfOk result (λ _. length self.new ≡ length self.old) }
         ensures narrowed { IfOk result (λ _. Narrowed (equations self.old) (equations self.new) (plain a.now) (plain b.now)) }
-        ensures sorted { IfOk result (λ _. (v w : ℕ → Sort) (k : Sort) → IsSorted v w (equations self.old) → HasSort v w k (plain a.now) → HasSort v w k (plain b.now) → IsSorted v w (equations self.new)) }
+        ensures sorted { IfOk result (λ _. (v : ℕ → Sort) (w : Heads) (k : Sort) → IsSorted v w (equations self.old) → HasSort v w k (plain a.now) → HasSort v w k (plain b.now) → IsSorted v w (equations self.new)) }
         ensures refused { result ≡ Err (fail.Refused (record {})) → NoneWithin (equations self.old) (plain a.now) (plain b.now) }
     {
         'rounds: loop {
@@ -99,7 +99,7 @@ impl Table {
         ensures general { IfOk result (λ made. IsMostGeneral (equations self.now) (meaning made)) }
         ensures small { IfOk result (λ made. Small (length self.now) (meaning made)) }
         ensures within { IfOk result (λ made. (x : ℕ) → x < length self.now → Uses (length self.now) (meaning made x)) }
-        ensures sorted { IfOk result (λ made. (v w : ℕ → Sort) → IsSorted v w (equations self.now) → (x : ℕ) → HasSort v w (v x) (meaning made x)) }
+        ensures sorted { IfOk result (λ made. (v : ℕ → Sort) (w : Heads) → IsSorted v w (equations self.now) → (x : ℕ) → HasSort v w (v x) (meaning made x)) }
         ensures refused { result ≡ Err (fail.Refused (record {})) → (t : ℕ → Ty) → Solves t (equations self.now) → Small (length self.now) t → ⊥ }
     {
         let types = types_of(alloc, self.entries.as_slice())?;
@@ -122,9 +122,9 @@ impl Table {
         ensures default { IfOk result (λ made. IsDefault (equations self.now) sorts.now (meaning made)) }
         ensures solves { IfOk result (λ made. Solves (meaning made) (equations self.now)) }
         ensures closed { IfOk result (λ made. (x y : ℕ) → x < length self.now → occurs y (meaning made x) ≡ false) }
-        ensures small { IfOk result (λ made. (w : ℕ → Sort) → IsSorted (sort_of sorts.now) w (equations self.now) → Small (length self.now) (meaning made)) }
-        ensures sorted { IfOk result (λ made. (w : ℕ → Sort) → IsSorted (sort_of sorts.now) w (equations self.now) → (x : ℕ) → HasSort (sort_of sorts.now) w (sort_of sorts.now x) (meaning made x)) }
-        ensures holds { IfOk result (λ made. (w : ℕ → Sort) → IsSorted (sort_of sorts.now) w (equations self.now) → AreMonads (sort_of sorts.now) conditions.now → hold no_one (listed states.now) (meaning made) conditions.now ≡ true) }
+        ensures small { IfOk result (λ made. (w : Heads) → IsSorted (sort_of sorts.now) w (equations self.now) → Small (length self.now) (meaning made)) }
+        ensures sorted { IfOk result (λ made. (w : Heads) → IsSorted (sort_of sorts.now) w (equations self.now) → (x : ℕ) → HasSort (sort_of sorts.now) w (sort_of sorts.now x) (meaning made x)) }
+        ensures holds { IfOk result (λ made. (w : Heads) → IsSorted (sort_of sorts.now) w (equations self.now) → AreMonads (sort_of sorts.now) conditions.now → hold no_one (listed states.now) (meaning made) conditions.now ≡ true) }
         ensures refused { result ≡ Err (fail.Refused (record {})) → HasNone (equations self.now) (listed states.now) conditions.now }
     {
         let types = self.most_general(alloc)?;
