@@ -1,8 +1,11 @@
 -- Declarations one after the other: default typings so far, and the first declaration that has none.
-use Rattle.std.proofs.Common.{◌≡◌, ℕ, zero, suc, ◌+◌, ◌<◌, List, [], ◌∷◌, ◌++◌, map, take, length, get_or, Result, Ok, Err, sym, ◌∙◌, ap, subst, arith, inl, inr}
+use Rattle.std.proofs.Common.{◌≡◌, ℕ, zero, suc, ◌+◌, ◌<◌, List, [], ◌∷◌, ◌++◌, map, take, length, get_or, Option, Some, None, Result, Ok, Err, refl, sym, ◌∙◌, ap, subst, arith, inl, inr}
 use Rattle.std.proofs.lemmas.List.{map-append, take_more}
 use Rattle.rw_base.specs.declared.place.Place.{Place}
-use Rattle.rw_base.specs.Answers.{Fail}
+use Rattle.rw_base.specs.declared.rule.Rule.{Rule}
+use Rattle.rw_base.specs.declared.rule.Rule.TheVariants.{E13}
+use Rattle.rw_base.specs.declared.fail.Refusal.{Refusal}
+use Rattle.rw_base.specs.Answers.{Fail, IsJudged}
 use Rattle.rw_base.specs.declared.fail.Failure.TheVariants.{Refused, OutOfMemory}
 use Rattle.rw_scope_rules.specs.declared.binding.Bound.{Bound}
 use Rattle.rw_tree.specs.Views.{itself}
@@ -13,7 +16,11 @@ use Rattle.rw_types_rules.specs.TypedTrees.{TypedNode}
 use Rattle.rw_types_rules.specs.Typings.{IsTypable, IsDefault}
 use Rattle.rw_types.specs.declared.typed.TypedDecl.{TypedDecl}
 use Rattle.rw_types.specs.Inside.{IsInferredAlone}
-use Rattle.rw_types.specs.Inferred.{seen, AreDefault, AreTypable, declaration_place, FirstUntypable, IsInferred, IsOkUnlessMemory, IsRefusedUnlessMemory}
+use Rattle.rw_types.specs.Inferred.{seen, AreDefault, AreTypable, declaration_place, FirstUntypable, IsInferred}
+
+refused_so : (refusal : Refusal) (place : Place) → refusal.rule ≡ E13 → refusal.place ≡ place → Some (record { rule = E13; place = place }) ≡ Some refusal
+refused_so refusal place p q =
+    ap Some (subst (λ (rule : Rule). record { rule = rule; place = place } ≡ refusal) p (subst (λ (at : Place). record { rule = refusal.rule; place = at } ≡ refusal) q refl))
 
 default_typable : (world : World) (d : Declaration Bound) (typed : Declaration TypedNode) → IsDefault world d typed → IsTypable world d
 default_typable world d typed k = record { sorts = k.sorts; states = k.states; typed = k.general; typing = k.typing }
@@ -67,14 +74,14 @@ module _ (world : World) where
   are_typable (d ∷ ds) [] h = absurd h
   are_typable (d ∷ ds) (t ∷ ts) h = (default_typable world d t h.0, are_typable ds ts h.1)
 
-  pub ok_unless : (ds : List (Declaration Bound)) (r : Result (List TypedDecl) Fail) → IsInferred world ds r → AreTypable world ds → IsOkUnlessMemory r
-  ok_unless ds (Ok made) h k = tt
-  ok_unless ds (Err (Refused refusal)) h k = none_first ds refusal.place k h.1
+  pub ok_unless : (ds : List (Declaration Bound)) (r : Result (List TypedDecl) Fail) → IsInferred world ds r → AreTypable world ds → IsJudged None r
+  ok_unless ds (Ok made) h k = refl
+  ok_unless ds (Err (Refused refusal)) h k = absurd (none_first ds refusal.place k h.1)
   ok_unless ds (Err OutOfMemory) h k = tt
 
-  pub refused_unless : (ds : List (Declaration Bound)) (r : Result (List TypedDecl) Fail) → IsInferred world ds r → (place : Place) → FirstUntypable world ds place → IsRefusedUnlessMemory place r
-  refused_unless ds (Ok made) h place f = none_first ds place (are_typable ds (map seen made) h) f
-  refused_unless ds (Err (Refused refusal)) h place f = (h.0, one_first ds refusal.place place h.1 f)
+  pub refused_unless : (ds : List (Declaration Bound)) (r : Result (List TypedDecl) Fail) → IsInferred world ds r → (place : Place) → FirstUntypable world ds place → IsJudged (Some (record { rule = E13; place = place })) r
+  refused_unless ds (Ok made) h place f = absurd (none_first ds place (are_typable ds (map seen made) h) f)
+  refused_unless ds (Err (Refused refusal)) h place f = refused_so refusal place h.0 (one_first ds refusal.place place h.1 f)
   refused_unless ds (Err OutOfMemory) h place f = tt
 
   -- an answer on the declaration that is come to

@@ -48,15 +48,3 @@ abbrev pub IsInferred : World → List (Declaration Bound) → Result (List Type
 IsInferred world ds (Ok made) = AreDefault world ds (map seen made)
 IsInferred world ds (Err (Refused refusal)) = (refusal.rule ≡ E13) × FirstUntypable world ds refusal.place
 IsInferred world ds (Err OutOfMemory) = Unit {0}
-
--- the answer is Ok, or memory ran out
-abbrev pub IsOkUnlessMemory : {A : Type 0} → Result A Fail → Type 0
-IsOkUnlessMemory (Ok a) = Unit {0}
-IsOkUnlessMemory (Err (Refused refusal)) = ⊥
-IsOkUnlessMemory (Err OutOfMemory) = Unit {0}
-
--- the answer is E13 at this place, or memory ran out
-abbrev pub IsRefusedUnlessMemory : {A : Type 0} → Place → Result A Fail → Type 0
-IsRefusedUnlessMemory place (Ok a) = ⊥
-IsRefusedUnlessMemory place (Err (Refused refusal)) = (refusal.rule ≡ E13) × (refusal.place ≡ place)
-IsRefusedUnlessMemory place (Err OutOfMemory) = Unit {0}

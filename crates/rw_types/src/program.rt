@@ -1,11 +1,13 @@
 // The typings of a whole program.
-ghost use Rattle.std.specs.Prelude.{◌≡◌, map};
+ghost use Rattle.std.specs.Prelude.{◌≡◌, Some, None, map};
 ghost use Rattle.rw_base.specs.declared.place.Place.{Place as PlainPlace};
+ghost use Rattle.rw_base.specs.declared.rule.Rule.TheVariants.{E13};
+ghost use Rattle.rw_base.specs.Answers.{IsJudged};
 ghost use Rattle.rw_tree.specs.Views.{itself};
 ghost use Rattle.rw_tree.specs.Declarations.{declaration, plain_program};
 ghost use Rattle.rw_types_rules.specs.Schemes.{world_of};
 ghost use Rattle.rw_types_equations.specs.Seen.{seen_world};
-ghost use Rattle.rw_types.specs.Inferred.{AreTypable, FirstUntypable, IsInferred, IsOkUnlessMemory, IsRefusedUnlessMemory};
+ghost use Rattle.rw_types.specs.Inferred.{AreTypable, FirstUntypable, IsInferred};
 ghost use Rattle.rw_types.specs.Inside.{IsInferredAlone};
 
 use crate::TypedDecl;
@@ -55,10 +57,10 @@ pub fn infer(alloc: Global, program: &Program<Bound>) -> Result<Items<TypedDecl>
     // Ok: the default typings. Refused: E13 at the first declaration that has no typing.
     ensures inferred { IsInferred (world_of (plain_program (λ a. a.span) program.now).declarations) (plain_program itself program.now).declarations result }
     // Where each declaration has a typing the answer is Ok, unless memory runs out.
-    ensures typable { AreTypable (world_of (plain_program (λ a. a.span) program.now).declarations) (plain_program itself program.now).declarations → IsOkUnlessMemory result }
+    ensures typable { AreTypable (world_of (plain_program (λ a. a.span) program.now).declarations) (plain_program itself program.now).declarations → IsJudged None result }
     // Where one has none the place of the first of them is named, unless memory runs out.
     ensures untypable { (place : PlainPlace) → FirstUntypable (world_of (plain_program (λ a. a.span) program.now).declarations) (plain_program itself program.now).declarations place →
-        IsRefusedUnlessMemory place result }
+        IsJudged (Some (record { rule = E13; place = place })) result }
 {
     let decls = program.decls.as_slice();
     let world = world(alloc, decls)?;
