@@ -1,0 +1,1 @@
+-- No words of its own: the law cites those of rw_cover_matrix and of rw_cover.
