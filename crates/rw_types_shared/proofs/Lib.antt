@@ -1,0 +1,5 @@
+pub mod Levels
+pub mod Numbers
+pub mod Adding
+pub mod Sharing
+pub mod Loops
