@@ -1,0 +1,4 @@
+-- The words that public contracts rest on.
+pub mod Terms
+pub mod Meaning
+pub mod Programs

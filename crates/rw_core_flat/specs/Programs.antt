@@ -1,0 +1,44 @@
+-- Flat programs: functions and a system of functions; and which outputs they show.
+use Rattle.std.specs.Prelude.{◌≡◌, ℕ, zero, suc, nat_eq, List, [], ◌∷◌, length, Option, Some, None, if◌then◌else◌}
+use Rattle.rw_core.specs.Values.{Val}
+use Rattle.rw_core.specs.Options.{◌>>=◌}
+use Rattle.rw_core.specs.Eventually.{Reaches}
+use Rattle.rw_core.specs.Traces.{shown}
+use Rattle.rw_core.specs.Systems.{System, Reading, system_outputs}
+use Rattle.rw_core_flat.specs.Terms.{FlatTerm}
+use Rattle.rw_core_flat.specs.Meaning.{Mode, valued, tracing, Answer, as_value, as_trace, meaning}
+
+-- a flat function: how many parameters it has, and its body
+pub record FlatFunction : Type 0 where
+  pub params : ℕ
+  pub body : FlatTerm
+
+abbrev pub function_at : ℕ → List FlatFunction → Option FlatFunction
+function_at k [] = None
+function_at zero (f ∷ fs) = Some f
+function_at (suc k) (f ∷ fs) = function_at k fs
+
+-- what a call gives within a budget: a call on the way has one less, and has all its arguments
+unfoldable pub call_within : List FlatFunction → ℕ → Mode → ℕ → List Val → Option Answer
+call_within functions zero mode i vs = None
+call_within functions (suc budget) mode i vs = do
+  f ← function_at i functions
+  if nat_eq (length vs) f.params then meaning (call_within functions budget) f.body mode vs else None
+
+-- how the leaves and the functions of a system, by their numbers, are read over what calls give: a leaf is a device without parameters and layers
+abbrev pub read_by : (Mode → ℕ → List Val → Option Answer) → Reading ℕ ℕ
+read_by calls = record {
+  outputs = λ i inputs. do
+    t ← calls (tracing [] inputs) i [] >>= as_trace
+    shown (length inputs) t.end t.outputs;
+  one = λ i v. calls valued i (v ∷ []) >>= as_value;
+  two = λ i v w. calls valued i (v ∷ w ∷ []) >>= as_value;
+}
+
+-- the outputs of a flat program on a list of inputs, within a budget
+abbrev pub outputs_within : List FlatFunction → System ℕ ℕ → ℕ → List Val → Option (List Val)
+outputs_within functions system budget inputs = system_outputs (read_by (call_within functions budget)) system inputs
+
+-- a flat program denotes these outputs on these inputs: from some budget on it gives them
+abbrev pub FlatDenotes : List FlatFunction → System ℕ ℕ → List Val → List Val → Type 0
+FlatDenotes functions system inputs outputs = Reaches (λ budget. outputs_within functions system budget inputs) outputs
