@@ -1,0 +1,3 @@
+-- Lemmas about the definitions, which proofs above cite.
+pub mod Ranks
+pub mod Worklist
