@@ -29,8 +29,8 @@ and_on_grows outputs (finished v s inputs) f g h = followed (f v s inputs) (g v 
 goes_grows : (a : Answer) (f g : Mode → Val → Option Answer) → ((mode : Mode) (v : Val) → Grows (f mode v) (g mode v)) → Grows (goes_on a f) (goes_on a g)
 goes_grows (a_value v) f g h = tt
 goes_grows (done v states) f g h = h (acting states) v
-goes_grows (traced t) f g h =
-    followed _ _ _ (and_on_grows t.outputs t.end _ _ (λ v states inputs. followed (f (tracing states inputs) v) (g (tracing states inputs) v) as_trace (h (tracing states inputs) v)))
+goes_grows (traced outputs end) f g h =
+    followed _ _ _ (and_on_grows outputs end _ _ (λ v states inputs. followed (f (tracing states inputs) v) (g (tracing states inputs) v) as_trace (h (tracing states inputs) v)))
 
 lifted_grows : (mode : Mode) (f g : Mode → Option Answer) → ((mode : Mode) → Grows (f mode) (g mode)) → Grows (lifted mode f) (lifted mode g)
 lifted_grows valued f g h = tt

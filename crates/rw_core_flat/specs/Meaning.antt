@@ -2,7 +2,7 @@
 use Rattle.std.specs.Prelude.{ℕ, zero, suc, nat_eq, List, [], ◌∷◌, ◌++◌, Option, Some, None, if◌then◌else◌}
 use Rattle.rw_core.specs.Values.{Val, Vals, val, none, more, vals}
 use Rattle.rw_core.specs.Options.{◌>>=◌}
-use Rattle.rw_core.specs.Traces.{Trace, silent, signalled, and_on, without_state}
+use Rattle.rw_core.specs.Traces.{End, Trace, silent, signalled, and_on, without_state}
 use Rattle.rw_meaning.specs.Options.{Tried, stuck, passed_over, taken, and_try, or_try, tried, what_is_taken}
 use Rattle.rw_core_flat.specs.Terms.{FlatPattern, any_pattern, bound_pattern, built_pattern, FlatPatterns, no_patterns, more_patterns}
 use Rattle.rw_core_flat.specs.Terms.{FlatTerm, local_term, built_term, case_term, let_term, call_term, mark_term, return_term, get_term, put_term, lift_term, bind_term, signal_term, extrude_term, FlatTerms, no_terms, more_terms}
@@ -16,19 +16,22 @@ pub data Mode : Type 0 where
   acting : List Val → Mode
   tracing : List Val → List Val → Mode
 
--- the answer: a value; a value and the states after it; or a trace
+-- the answer: a value; a value and the states after it; or a trace, its outputs and its end
 pub data Answer : Type 0 where
   a_value : Val → Answer
   done : Val → List Val → Answer
-  traced : Trace Val (List Val) → Answer
+  traced : List Val → End Val (List Val) → Answer
 
 abbrev pub as_value : Answer → Option Val
 as_value (a_value v) = Some v
 as_value _ = None
 
 abbrev pub as_trace : Answer → Option (Trace Val (List Val))
-as_trace (traced t) = Some t
+as_trace (traced outputs end) = Some (record { outputs = outputs; end = end })
 as_trace _ = None
+
+abbrev pub of_trace : Trace Val (List Val) → Answer
+of_trace t = traced t.outputs t.end
 
 -- the states below the first layer
 abbrev pub below : List Val → Option (List Val)
@@ -41,7 +44,7 @@ below (s ∷ states) = Some states
 abbrev pub returned : Mode → Val → Option Answer
 returned valued v = None
 returned (acting states) v = Some (done v states)
-returned (tracing states inputs) v = Some (traced (silent v states inputs))
+returned (tracing states inputs) v = Some (of_trace (silent v states inputs))
 
 abbrev pub got : Mode → Option Answer
 got (acting (s ∷ states)) = Some (done s (s ∷ states))
@@ -52,16 +55,16 @@ stored (acting (s ∷ states)) v = Some (done (val 0 none) (v ∷ states))
 stored _ v = None
 
 abbrev pub shown_as_signal : Mode → Val → Option Answer
-shown_as_signal (tracing states inputs) v = Some (traced (signalled (λ i. i) v states inputs))
+shown_as_signal (tracing states inputs) v = Some (of_trace (signalled (λ i. i) v states inputs))
 shown_as_signal _ v = None
 
 -- after an answer: what comes next starts with its value, in its states
 abbrev pub goes_on : Answer → (Mode → Val → Option Answer) → Option Answer
 goes_on (a_value v) next = None
 goes_on (done v states) next = next (acting states) v
-goes_on (traced t) next = do
-  u ← and_on t.outputs t.end (λ v states inputs. next (tracing states inputs) v >>= as_trace)
-  Some (traced u)
+goes_on (traced outputs end) next = do
+  t ← and_on outputs end (λ v states inputs. next (tracing states inputs) v >>= as_trace)
+  Some (of_trace t)
 
 -- a state action below the first layer
 abbrev pub above : Val → Answer → Option Answer
@@ -70,7 +73,7 @@ above s _ = None
 
 -- a state action as a device that shows nothing
 abbrev pub silently : List Val → Answer → Option Answer
-silently inputs (done v others) = Some (traced (silent v others inputs))
+silently inputs (done v others) = Some (of_trace (silent v others inputs))
 silently inputs _ = None
 
 abbrev pub lifted : Mode → (Mode → Option Answer) → Option Answer
@@ -84,7 +87,7 @@ abbrev pub extruded : Mode → Val → (Mode → Option Answer) → Option Answe
 extruded (tracing states inputs) s again = do
   t ← again (tracing (s ∷ states) inputs) >>= as_trace
   u ← without_state below t.outputs t.end
-  Some (traced u)
+  Some (of_trace u)
 extruded _ s again = None
 
 -- == Matching ==
