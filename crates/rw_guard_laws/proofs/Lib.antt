@@ -1,0 +1,6 @@
+-- Lemmas about the definitions.
+mod Parts
+mod Answering
+mod Total
+mod Ends
+mod Outputs
