@@ -1,0 +1,2 @@
+-- The proof that the toggle is guarded.
+pub mod Guarding
