@@ -95,8 +95,29 @@ fn files_are_saved_and_loaded(rt: HostRuntime) -> Result<(), Fail> {
 }
 
 #[test]
+fn a_file_of_many_pieces_is_loaded_whole(rt: HostRuntime) -> Result<(), Fail> {
+    let alloc = rt.alloc();
+    let mut bytes = Vec::new(alloc);
+    for i in 0..10_000_usize {
+        bytes.push((i % 251) as u8)?;
+    }
+    let mut store = FileStore::new(&rt);
+    assert!(rt; store.save("rw_base_pieces.txt", &bytes).is_ok());
+    for most in [4095, 4096, 4097, 8192, 9999, 10_000, 10_001] {
+        let found = store
+            .load(alloc, "rw_base_pieces.txt", most)
+            .map_err(|_| "fault")?;
+        assert_eq!(rt; found.as_slice(), &bytes[..most.min(10_000)]);
+    }
+    Ok(())
+}
+
+#[test]
 fn a_stream_takes_what_is_put(rt: HostRuntime) -> Result<(), Fail> {
     let mut sink = StreamSink::new(Vec::new(rt.alloc()));
     assert!(rt; sink.put(b"line\n").is_ok());
+    assert!(rt; sink.put(b"").is_ok());
+    assert!(rt; sink.put(b"more\n").is_ok());
+    assert_eq!(rt; sink.into_inner().as_slice(), b"line\nmore\n".as_slice());
     Ok(())
 }
