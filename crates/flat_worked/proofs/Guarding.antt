@@ -7,8 +7,9 @@ use Rattle.rw_core_flat.specs.Programs.{FlatFunction, function_at}
 use Rattle.rw_guard_rules.specs.Signals.{signals_here, signals_left, signals_call, Guarded, calls_in, CallsEnd}
 use Rattle.rw_guard_rules.specs.Rules.{one_step}
 use Rattle.rw_guard_rules.proofs.Ranks.{no_cycle}
-use Rattle.rw_guard_laws.specs.Typed.{device, of_data, doing, Sign, DataTypes, FieldsFit, AllFit, Matched, Typed, is_local, is_con, is_case, is_call, is_bind, is_signal, no_typed, more_typed, no_lets_typed, no_rows_typed, more_rows_typed, body_typed, FunctionTyped, leaf_typed, IsGuarded}
-use Rattle.flat_worked.specs.Toggle.{fields, rows, flip, toggle, start, functions, flip_sign, toggle_sign, start_sign, signs, loop}
+use Rattle.rw_core_flat.specs.WellTyped.{device, of_data, doing, Sign, sign_of, DataTypes, FieldsFit, AllFit, Matched, Typed, is_local, is_con, is_case, is_call, is_bind, is_signal, no_typed, more_typed, no_lets_typed, no_rows_typed, more_rows_typed, body_typed, FunctionTyped, leaf_typed}
+use Rattle.rw_guard_laws.specs.Guarded.{IsGuarded}
+use Rattle.flat_worked.specs.Toggle.{fields, rows, flip, toggle, start, functions, signs, loop}
 
 pub two : (tag : ℕ) (ds : List ℕ) → fields 0 tag ≡ Some ds → tag ≤ 1
 two zero ds e = omega arith
@@ -41,9 +42,9 @@ start_typed : Typed types functions signs [] start.body (doing (device 0 0) [] 1
 start_typed = is_call (0 ∷ []) refl (more_typed (is_con [] refl no_typed) no_typed)
 
 by_number : (i : ℕ) (s : Sign) → signs i ≡ Some s → FunctionTyped types functions signs i s
-by_number zero s e = let k : flip_sign ≡ s = cc in subst (FunctionTyped types functions signs 0) k (record { function = flip; found = refl; counted = refl; typed = flip_typed })
-by_number (suc zero) s e = let k : toggle_sign ≡ s = cc in subst (FunctionTyped types functions signs 1) k (record { function = toggle; found = refl; counted = refl; typed = toggle_typed })
-by_number (suc (suc zero)) s e = let k : start_sign ≡ s = cc in subst (FunctionTyped types functions signs 2) k (record { function = start; found = refl; counted = refl; typed = start_typed })
+by_number zero s e = let k : sign_of flip ≡ s = cc in subst (FunctionTyped types functions signs 0) k (record { function = flip; found = refl; counted = refl; typed = flip_typed })
+by_number (suc zero) s e = let k : sign_of toggle ≡ s = cc in subst (FunctionTyped types functions signs 1) k (record { function = toggle; found = refl; counted = refl; typed = toggle_typed })
+by_number (suc (suc zero)) s e = let k : sign_of start ≡ s = cc in subst (FunctionTyped types functions signs 2) k (record { function = start; found = refl; counted = refl; typed = start_typed })
 by_number (suc (suc (suc i))) s e = absurd (cc)
 
 -- `start` has rank 1, as its call is open, and all others have rank 0
@@ -69,7 +70,8 @@ falls (suc (suc (suc i))) f e = absurd (cc)
 pub guarded : IsGuarded types functions signs (leaf 2) 0 0
 guarded = record {
   functions = by_number;
-  system_typed = leaf_typed 1 refl (signals_call start refl (signals_call toggle refl (signals_left signals_here)));
+  system_typed = leaf_typed 1 refl;
+  leaves = signals_call start refl (signals_call toggle refl (signals_left signals_here));
   ends = record { rank = rank; most = 1; bounded = bounded; falls = falls };
 }
 

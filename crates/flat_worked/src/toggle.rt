@@ -3,7 +3,8 @@ ghost use Rattle.std.specs.Prelude.{◌≡◌, [], ◌∷◌, Some};
 ghost use Rattle.rw_core.specs.Systems.{leaf};
 ghost use Rattle.rw_core_flat.specs.Programs.{outputs_within};
 ghost use Rattle.rw_guard_rules.specs.Signals.{CallsEnd};
-ghost use Rattle.rw_guard_laws.specs.Typed.{DataTypes, IsGuarded};
+ghost use Rattle.rw_core_flat.specs.WellTyped.{DataTypes};
+ghost use Rattle.rw_guard_laws.specs.Guarded.{IsGuarded};
 ghost use Rattle.flat_worked.specs.Toggle.{fields, functions, signs, loop, on, off};
 
 /// The toggle is guarded, over the two data types that it has.

@@ -55,9 +55,9 @@ module _ (calls later : Mode → ℕ → List Val → Option Answer) (h : (mode 
     meaning_grows (local_term k) valued env = grows_same (value_at k env >>= λ v. Some (a_value v))
     meaning_grows (local_term k) (acting states) env = tt
     meaning_grows (local_term k) (tracing states inputs) env = tt
-    meaning_grows (built_term place ts) valued env = followed _ _ _ (values_grow ts env)
-    meaning_grows (built_term place ts) (acting states) env = tt
-    meaning_grows (built_term place ts) (tracing states inputs) env = tt
+    meaning_grows (built_term type place ts) valued env = followed _ _ _ (values_grow ts env)
+    meaning_grows (built_term type place ts) (acting states) env = tt
+    meaning_grows (built_term type place ts) (tracing states inputs) env = tt
     meaning_grows (case_term ts rows) mode env = grows_on _ _ _ _ (values_grow ts env) (λ vs. grows_taken _ _ (rows_keep rows mode env vs))
     meaning_grows (let_term lets t) mode env = grows_on _ _ _ _ (bound_grows lets env) (λ inner. meaning_grows t mode inner)
     meaning_grows (call_term i ts) mode env = grows_on _ _ _ _ (values_grow ts env) (λ vs. h mode i vs)
@@ -113,7 +113,7 @@ module _ (functions : List FlatFunction) where
   unfolding call_within
   call_grows further zero mode i vs = tt
   call_grows further (suc b) mode i vs =
-      rw (more_suc b further) (unchanged (function_at i functions) _ _ (λ f. if_grows (nat_eq (length vs) f.params) _ _
+      rw (more_suc b further) (unchanged (function_at i functions) _ _ (λ f. if_grows (nat_eq (length vs) (length f.params)) _ _
       (meaning_grows (call_within functions b) (call_within functions (further + b)) (call_grows further b) f.body mode vs)))
     where
       more_suc : (b further : ℕ) → further + suc b ≡ suc (further + b)

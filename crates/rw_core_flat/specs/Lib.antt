@@ -2,3 +2,5 @@
 pub mod Terms
 pub mod Meaning
 pub mod Programs
+pub mod Views
+pub mod WellTyped

@@ -130,9 +130,9 @@ module _ (calls : Mode → ℕ → List Val → Option Answer) where
     meaning (local_term k) valued env = do v ← value_at k env; Some (a_value v)
     meaning (local_term k) (acting states) env = None
     meaning (local_term k) (tracing states inputs) env = None
-    meaning (built_term place ts) valued env = do vs ← values ts env; Some (a_value (val place (vals vs)))
-    meaning (built_term place ts) (acting states) env = None
-    meaning (built_term place ts) (tracing states inputs) env = None
+    meaning (built_term type place ts) valued env = do vs ← values ts env; Some (a_value (val place (vals vs)))
+    meaning (built_term type place ts) (acting states) env = None
+    meaning (built_term type place ts) (tracing states inputs) env = None
     meaning (case_term ts rows) mode env = do vs ← values ts env; what_is_taken (rows_meaning rows mode env vs)
     meaning (let_term lets t) mode env = do inner ← bound lets env; meaning t mode inner
     meaning (call_term i ts) mode env = do vs ← values ts env; calls mode i vs

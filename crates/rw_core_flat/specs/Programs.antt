@@ -1,5 +1,6 @@
 -- Flat programs: functions and a system of functions; and which outputs they show.
 use Rattle.std.specs.Prelude.{◌≡◌, ℕ, zero, suc, nat_eq, List, [], ◌∷◌, length, Option, Some, None, if◌then◌else◌}
+use Rattle.rw_base.specs.declared.place.Place.{Place}
 use Rattle.rw_core.specs.Values.{Val}
 use Rattle.rw_core.specs.Options.{◌>>=◌}
 use Rattle.rw_core.specs.Eventually.{Reaches}
@@ -8,9 +9,20 @@ use Rattle.rw_core.specs.Systems.{System, Reading, system_outputs}
 use Rattle.rw_core_flat.specs.Terms.{FlatTerm}
 use Rattle.rw_core_flat.specs.Meaning.{Mode, valued, tracing, Answer, as_value, as_trace, meaning}
 
--- a flat function: how many parameters it has, and its body
+-- what a flat function computes: a value; a state action over layers with states of these types; or a device with inputs and outputs of these
+-- types over such layers. Types are numbers in the table of the program
+pub data FunctionKind : Type 0 where
+  pure : FunctionKind
+  state : List ℕ → FunctionKind
+  device : ℕ → ℕ → List ℕ → FunctionKind
+
+-- a flat function: the name and the place of its declaration, what it computes, the types of its parameters and of its value, and its body
 pub record FlatFunction : Type 0 where
-  pub params : ℕ
+  pub name : List ℕ
+  pub place : Place
+  pub kind : FunctionKind
+  pub params : List ℕ
+  pub result : ℕ
   pub body : FlatTerm
 
 abbrev pub function_at : ℕ → List FlatFunction → Option FlatFunction
@@ -23,7 +35,7 @@ unfoldable pub call_within : List FlatFunction → ℕ → Mode → ℕ → List
 call_within functions zero mode i vs = None
 call_within functions (suc budget) mode i vs = do
   f ← function_at i functions
-  if nat_eq (length vs) f.params then meaning (call_within functions budget) f.body mode vs else None
+  if nat_eq (length vs) (length f.params) then meaning (call_within functions budget) f.body mode vs else None
 
 -- how the leaves and the functions of a system, by their numbers, are read over what calls give: a leaf is a device without parameters and layers
 abbrev pub read_by : (Mode → ℕ → List Val → Option Answer) → Reading ℕ ℕ

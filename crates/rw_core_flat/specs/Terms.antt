@@ -17,8 +17,8 @@ mutual
   pub data FlatTerm : Type 0 where
     -- a variable
     local_term : ℕ → FlatTerm
-    -- a constructor, by its place, with all its fields; a tuple has place 0
-    built_term : ℕ → FlatTerms → FlatTerm
+    -- a data type, by its number in the table, and a constructor of it, by its place, with all its fields; a tuple has place 0
+    built_term : ℕ → ℕ → FlatTerms → FlatTerm
     -- values matched against rows, of which the first that is taken counts
     case_term : FlatTerms → FlatRows → FlatTerm
     let_term : FlatLets → FlatTerm → FlatTerm

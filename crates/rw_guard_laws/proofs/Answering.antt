@@ -6,7 +6,7 @@ use Rattle.rw_core.specs.Options.{◌>>=◌}
 use Rattle.rw_core.specs.Traces.{End, waits, finished, without_state}
 use Rattle.rw_core_flat.specs.Meaning.{Mode, valued, acting, tracing, Answer, a_value, done, traced, as_value, as_trace, of_trace, below, returned, got, stored, shown_as_signal, goes_on, above, silently, lifted, extruded}
 use Rattle.std.specs.List.{AllByRecursion}
-use Rattle.rw_guard_laws.specs.Typed.{Monad, state, device, Kind, of_data, doing, DataTypes, Fits, FieldsFit, AllFit}
+use Rattle.rw_core_flat.specs.WellTyped.{Monad, state, device, Kind, of_data, doing, DataTypes, Fits, FieldsFit, AllFit}
 use Rattle.rw_guard_laws.proofs.Parts.{every_joined, then_it}
 
 -- the inputs that are left

@@ -7,7 +7,7 @@ use Rattle.rw_core_flat.specs.Meaning.{Mode, valued, acting, tracing, Answer, a_
 use Rattle.rw_core_flat.specs.Programs.{FlatFunction, function_at, call_within}
 use Rattle.std.specs.List.{AllByRecursion}
 use Rattle.rw_guard_rules.specs.Signals.{Signals, Held, calls_in, Guarded, CallsEnd}
-use Rattle.rw_guard_laws.specs.Typed.{Kind, of_data, doing, Sign, DataTypes, Fits, AllFit, Typed, FunctionTyped}
+use Rattle.rw_core_flat.specs.WellTyped.{Kind, of_data, doing, Sign, DataTypes, Fits, AllFit, Typed, FunctionTyped}
 use Rattle.rw_guard_laws.proofs.Parts.{every_map, all_long, same_held, same_number}
 use Rattle.rw_guard_laws.proofs.Answering.{left, Asked, Answers, Goes, Gives, value_of}
 use Rattle.rw_guard_laws.proofs.Total.{BodySignals, term}
@@ -39,18 +39,18 @@ module _ (types : DataTypes) (flat_functions : List FlatFunction) (signs : ℕ �
   may_less b m k i e h = let l = room_le ends.most m k e in omega (arith, h)
 
   -- a call, by the function that it is of
-  called : (k : Kind) (n : ℕ) (S T : Type 0) (x : Option FlatFunction) (f : FlatFunction) (vs : List Val) (body : FlatFunction → Option Answer) → (S → T) → x ≡ Some f → nat_eq (length vs) f.params ≡ true → Gives types k n T (body f)
-      → Gives types k n S (x >>= λ f. if nat_eq (length vs) f.params then body f else None)
+  called : (k : Kind) (n : ℕ) (S T : Type 0) (x : Option FlatFunction) (f : FlatFunction) (vs : List Val) (body : FlatFunction → Option Answer) → (S → T) → x ≡ Some f → nat_eq (length vs) (length f.params) ≡ true → Gives types k n T (body f)
+      → Gives types k n S (x >>= λ f. if nat_eq (length vs) (length f.params) then body f else None)
   called k n S T x f vs body why e c g = record { answer = g.answer; gives = rw (e, c) g.gives; fits = g.fits; fewer = λ s. g.fewer (why s) }
 
-  true_body : (b : ℕ) (f : FlatFunction) (c : Bool) → f.body ≡ built_term 1 no_terms → (a : Answer) → (if c then meaning (call_within flat_functions b) f.body valued [] else None) ≡ Some a → a ≡ a_value (val 1 none)
-  true_body b f true e a h = let k : meaning (call_within flat_functions b) (built_term 1 no_terms) valued [] ≡ Some a = subst (λ z. meaning (call_within flat_functions b) z valued [] ≡ Some a) e h in sym (cc)
-  true_body b f false e a h = absurd (cc)
+  true_body : (b : ℕ) (f : FlatFunction) (c : Bool) (type : ℕ) → f.body ≡ built_term type 1 no_terms → (a : Answer) → (if c then meaning (call_within flat_functions b) f.body valued [] else None) ≡ Some a → a ≡ a_value (val 1 none)
+  true_body b f true type e a h = let k : meaning (call_within flat_functions b) (built_term type 1 no_terms) valued [] ≡ Some a = subst (λ z. meaning (call_within flat_functions b) z valued [] ≡ Some a) e h in sym (cc)
+  true_body b f false type e a h = absurd (cc)
 
-  true_calls : (b i : ℕ) (f : FlatFunction) → function_at i flat_functions ≡ Some f → f.body ≡ built_term 1 no_terms → (a : Answer) → call_within flat_functions b valued i [] ≡ Some a → a ≡ a_value (val 1 none)
+  true_calls : (b i : ℕ) (f : FlatFunction) → function_at i flat_functions ≡ Some f → (type : ℕ) × (f.body ≡ built_term type 1 no_terms) → (a : Answer) → call_within flat_functions b valued i [] ≡ Some a → a ≡ a_value (val 1 none)
   unfolding call_within
   true_calls zero i f e g a h = absurd (cc)
-  true_calls (suc b) i f e g a h = true_body b f (nat_eq 0 f.params) g a (rw e at h)
+  true_calls (suc b) i f e g a h = true_body b f (nat_eq 0 (length f.params)) g.0 g.1 a (rw e at h)
 
   body_of : (i : ℕ) (f : FlatFunction) → function_at i flat_functions ≡ Some f → BodySignals flat_functions i → Signals flat_functions f.body
   body_of i f e s = subst (λ z. Signals flat_functions z.body) (same_held (function_at i flat_functions) s.0 f s.1 e) s.2
@@ -62,7 +62,7 @@ module _ (types : DataTypes) (flat_functions : List FlatFunction) (signs : ℕ �
   call_goes (suc b) i s e vs w mode a h =
       let f = functions i s e in
       called s.kind (left mode) (BodySignals flat_functions i) (Signals flat_functions f.function.body) (function_at i flat_functions) f.function vs (λ f. meaning (call_within flat_functions b) f.body mode vs) (body_of i f.function f.found) f.found
-      (same_number (length vs) f.function.params (all_long types s.params vs w ∙ sym f.counted))
+      (same_number (length vs) (length f.function.params) (all_long types s.params vs w ∙ sym f.counted))
       (term types flat_functions signs (call_within flat_functions b) (May b) (may_less b) (call_goes b) (true_calls b) (left mode)
       (λ m j less. let l = room_less ends.most m (left mode) less in let k = ends.bounded j in omega (arith, h))
       f.typed [] (every_map _ _ (λ c o free. let k = o free in omega (arith, h)) (calls_in [] f.function.body) (ends.falls i f.function f.found)) vs w mode a (inr (omega arith, λ g. g)))

@@ -4,14 +4,15 @@ use Rattle.std.specs.List.{AllByRecursion}
 use Rattle.std.proofs.lemmas.List.{length-append, length-replicate}
 use Rattle.rw_core.specs.Values.{Val, Vals, val, none, more}
 use Rattle.rw_core.specs.Options.{◌>>=◌, each, Grows}
-use Rattle.rw_core.specs.Systems.{System, leaf, side_by_side, fed_back, first_part, second_part, paired, last_of, fed, system_outputs}
+use Rattle.rw_core.specs.Systems.{System, leaf, side_by_side, fed_back, first_part, second_part, paired, last_of, fed, system_outputs, EachLeaf}
 use Rattle.rw_core.specs.Traces.{End, waits, finished, last_repeated, shown}
 use Rattle.rw_core_flat.specs.Terms.{FlatTerm, local_term, call_term, no_terms, more_terms}
 use Rattle.rw_core_flat.specs.Meaning.{Mode, valued, tracing, Answer, a_value, done, traced, as_value, as_trace, meaning}
 use Rattle.rw_core_flat.specs.Programs.{FlatFunction, call_within, read_by, outputs_within, FlatDenotes}
 use Rattle.rw_core_flat.proofs.Growing.{outputs_grow}
 use Rattle.rw_guard_rules.specs.Signals.{Signals, CallsEnd}
-use Rattle.rw_guard_laws.specs.Typed.{device, of_data, doing, Sign, DataTypes, Fits, FieldsFit, AllFit, Typed, is_local, is_call, no_typed, more_typed, FunctionTyped, SystemTyped, leaf_typed, pair_typed, fed_back_typed, IsGuarded}
+use Rattle.rw_core_flat.specs.WellTyped.{device, of_data, doing, Sign, DataTypes, Fits, FieldsFit, AllFit, Typed, is_local, is_call, no_typed, more_typed, FunctionTyped, SystemTyped, leaf_typed, pair_typed, fed_back_typed}
+use Rattle.rw_guard_laws.specs.Guarded.{IsGuarded}
 use Rattle.rw_guard_laws.proofs.Parts.{every_joined}
 use Rattle.rw_guard_laws.proofs.Answering.{Fewer, Answers, Gives}
 use Rattle.rw_guard_laws.proofs.Ends.{room, room_le, term_goes, value_goes}
@@ -108,24 +109,24 @@ module _ (types : DataTypes) (flat_functions : List FlatFunction) (signs : ℕ �
       let s = fed_lists i i' o' g ty l n F k (inner ++ r.0 ∷ []) outer (every_joined (Fits types i') inner (r.0 ∷ []) h (r.2, tt)) w.1 (omega (arith, c)) in
       record { list = s.list; gives = rw (p.gives, q.1, r.1) s.gives; long = omega (arith, s.long, c); each_is = s.each_is }
 
-  pub system_lists : {s : System ℕ ℕ} {i o : ℕ} → SystemTyped types flat_functions signs s i o → (inputs : List Val) → AllByRecursion (Fits types i) inputs → room ends.most (length inputs) + ends.most < b
+  pub system_lists : {s : System ℕ ℕ} {i o : ℕ} → SystemTyped types flat_functions signs s i o → EachLeaf (λ k. Signals flat_functions (call_term k no_terms)) s → (inputs : List Val) → AllByRecursion (Fits types i) inputs → room ends.most (length inputs) + ends.most < b
       → Lists (Fits types o) (suc (length inputs)) (system_outputs (read_by calls) s inputs)
-  system_lists (leaf_typed {k = k} {i = i} {o = o} d is s) inputs h l =
+  system_lists (leaf_typed {k = k} {i = i} {o = o} d is) s inputs h l =
       let g = term_goes types flat_functions signs functions ends b {g = []} (is_call {ts = no_terms} [] is no_typed) [] tt (tracing [] inputs) (tt, h) l in
       shows types i o [] d (length inputs) (calls (tracing [] inputs) k []) g.answer g.gives g.fits (g.fewer s)
-  system_lists (pair_typed {a = a} {b = c} {i = i} {o = o} i' i'' o' o'' split e ty uy) inputs h l =
+  system_lists (pair_typed {a = a} {b = c} {i = i} {o = o} i' i'' o' o'' split e ty uy) s inputs h l =
       let p = each_lists (Fits types i) (Fits types i') first_part (λ v f. (in_pair types i i' i'' split v f).0) inputs h in
       let q = each_lists (Fits types i) (Fits types i'') second_part (λ v f. (in_pair types i i' i'' split v f).1) inputs h in
-      let r = system_lists ty p.list p.each_is (rw p.long l) in
-      let s = system_lists uy q.list q.each_is (rw q.long l) in
+      let r = system_lists ty s.0 p.list p.each_is (rw p.long l) in
+      let z = system_lists uy s.1 q.list q.each_is (rw q.long l) in
       on (each first_part inputs) _ p.list p.gives (on (each second_part inputs) _ q.list q.gives
-      (on (system_outputs (read_by calls) a p.list) _ r.list r.gives (on (system_outputs (read_by calls) c q.list) _ s.list s.gives
-      (pairs types o o' o'' e r.list s.list (suc (length inputs)) (r.long ∙ ap suc p.long) (s.long ∙ ap suc q.long) r.each_is s.each_is))))
-  system_lists (fed_back_typed {f = f} {g = g} {a = a} {i = i} {o = o} i' o' fy gy ty) inputs h l =
+      (on (system_outputs (read_by calls) a p.list) _ r.list r.gives (on (system_outputs (read_by calls) c q.list) _ z.list z.gives
+      (pairs types o o' o'' e r.list z.list (suc (length inputs)) (r.long ∙ ap suc p.long) (z.long ∙ ap suc q.long) r.each_is z.each_is))))
+  system_lists (fed_back_typed {f = f} {g = g} {a = a} {i = i} {o = o} i' o' fy gy ty) s inputs h l =
       let p = fed_lists i i' o' g gy (omega arith) (length inputs) (system_outputs (read_by calls) a)
-      (λ is w e. let k = room_le ends.most (length is) (length inputs) e in system_lists ty is w (omega arith)) [] inputs tt h (omega arith) in
+      (λ is w e. let k = room_le ends.most (length is) (length inputs) e in system_lists ty s is w (omega arith)) [] inputs tt h (omega arith) in
       let long : length p.list ≡ length inputs = omega (arith, p.long) in
-      let q = system_lists ty p.list p.each_is (rw long l) in
+      let q = system_lists ty s p.list p.each_is (rw long l) in
       let r = each_lists (Fits types o') (Fits types o) ((read_by calls).one f) (λ v w. one_value f o' o fy (omega arith) v w) q.list q.each_is in
       on (fed (system_outputs (read_by calls) a) ((read_by calls).two g) [] inputs) _ p.list p.gives (on (system_outputs (read_by calls) a p.list) _ q.list q.gives
       (record { list = r.list; gives = r.gives; long = r.long ∙ (q.long ∙ ap suc long); each_is = r.each_is }))
@@ -136,7 +137,7 @@ pub outputs_of : (types : DataTypes) (flat_functions : List FlatFunction) (signs
     → (outputs : List Val) × (b : ℕ) × (outputs_within flat_functions system b inputs ≡ Some outputs) × (length outputs ≡ suc (length inputs)) × AllByRecursion (Fits types o) outputs
 outputs_of types flat_functions signs system i o g inputs h =
     let b = suc (room g.ends.most (length inputs) + g.ends.most) in
-    let q = system_lists types flat_functions signs g.functions g.ends b g.system_typed inputs h (omega arith) in
+    let q = system_lists types flat_functions signs g.functions g.ends b g.system_typed g.leaves inputs h (omega arith) in
     (q.list, b, q.gives, q.long, q.each_is)
 
 -- from then on a greater budget gives them too

@@ -7,7 +7,7 @@ use Rattle.rw_meaning.specs.Options.{Tried, stuck, passed_over, taken, and_try, 
 use Rattle.rw_core_flat.specs.Terms.{FlatPattern, any_pattern, bound_pattern, built_pattern, FlatPatterns, no_patterns, more_patterns}
 use Rattle.rw_core_flat.specs.Meaning.{matched, parts_matched, row_matched, value_at}
 use Rattle.std.specs.List.{AllByRecursion}
-use Rattle.rw_guard_laws.specs.Typed.{DataTypes, Fits, FieldsFit, AllFit, type_at, pattern_types, patterns_types}
+use Rattle.rw_core_flat.specs.WellTyped.{DataTypes, Fits, FieldsFit, AllFit, type_at, pattern_types, patterns_types}
 
 pub first : {A : Type 0} (P : A → Type 0) (xs ys : List A) → AllByRecursion P (xs ++ ys) → AllByRecursion P xs
 first P [] ys h = tt

@@ -12,9 +12,9 @@ use Rattle.rw_core_flat.specs.Programs.{FlatFunction, function_at}
 use Rattle.rw_guard_rules.specs.Signals.{Signals, signals_here, signals_left, signals_right, signals_case, signals_let, signals_mark, signals_call, signals_extrude, RowsSignal, no_row_left, each_row, ArmsSignal, the_body, no_arm_left, each_arm}
 use Rattle.std.specs.List.{AllByRecursion}
 use Rattle.rw_guard_rules.specs.Signals.{Step, right_of, inward, aside, Held, calls_in, calls_in_all, calls_in_lets, calls_in_rows, calls_in_arms, Guarded}
-use Rattle.rw_guard_laws.specs.Typed.{Monad, state, device, Kind, of_data, doing, Sign, DataTypes, Fits, FieldsFit, AllFit, type_at, pattern_types, patterns_types, IsTrueTerm, EndsOpen, Matched}
-use Rattle.rw_guard_laws.specs.Typed.{Typed, is_local, is_con, is_case, is_let, is_call, is_mark, is_return, is_get, is_put, lifts_state, lifts_device, is_bind, is_signal, is_extrude, AllTyped, no_typed, more_typed}
-use Rattle.rw_guard_laws.specs.Typed.{LetsTyped, no_lets_typed, more_lets_typed, RowsTyped, no_rows_typed, more_rows_typed, ArmsTyped, body_typed, no_arms_typed, more_arms_typed}
+use Rattle.rw_core_flat.specs.WellTyped.{Monad, state, device, Kind, of_data, doing, Sign, DataTypes, Fits, FieldsFit, AllFit, type_at, pattern_types, patterns_types, IsTrueTerm, EndsOpen, Matched}
+use Rattle.rw_core_flat.specs.WellTyped.{Typed, is_local, is_con, is_case, is_let, is_call, is_mark, is_return, is_get, is_put, lifts_state, lifts_device, is_bind, is_signal, is_extrude, AllTyped, no_typed, more_typed}
+use Rattle.rw_core_flat.specs.WellTyped.{LetsTyped, no_lets_typed, more_lets_typed, RowsTyped, no_rows_typed, more_rows_typed, ArmsTyped, body_typed, no_arms_typed, more_arms_typed}
 use Rattle.rw_guard_laws.proofs.Parts.{first, second, then_it, all_joined, looked_up, as_fields, Matches, pattern_matches, row_matches}
 use Rattle.rw_guard_laws.proofs.Answering.{left, Fewer, Asked, Answers, Goes, Gives, with_reason, value_of, return_goes, get_goes, put_goes, lift_acts, lift_traces, signal_goes, extrude_goes, bind_goes}
 
@@ -56,7 +56,7 @@ lift_silent s = elim s [ ]
 local_silent : {flat_functions : List FlatFunction} {k : ℕ} → Signals flat_functions (local_term k) → ⊥
 local_silent s = elim s [ ]
 
-con_silent : {flat_functions : List FlatFunction} {place : ℕ} {ts : FlatTerms} → Signals flat_functions (built_term place ts) → ⊥
+con_silent : {flat_functions : List FlatFunction} {type place : ℕ} {ts : FlatTerms} → Signals flat_functions (built_term type place ts) → ⊥
 con_silent s = elim s [ ]
 
 body_signals : {flat_functions : List FlatFunction} {t : FlatTerm} → ArmsSignal flat_functions (body_arm t) → Signals flat_functions t
@@ -73,7 +73,7 @@ row_signals (each_row s r) = (s, r)
 module _ (types : DataTypes) (flat_functions : List FlatFunction) (signs : ℕ → Option Sign) (calls : Mode → ℕ → List Val → Option Answer) (May : ℕ → ℕ → Type 0)
     (may_less : (m k i : ℕ) → m ≤ k → May k i → May m i)
     (calls_go : (i : ℕ) (s : Sign) → signs i ≡ Some s → (vs : List Val) → AllFit types s.params vs → (mode : Mode) → Asked types s.kind mode → May (left mode) i → Gives types s.kind (left mode) (BodySignals flat_functions i) (calls mode i vs))
-    (true_calls : (i : ℕ) (f : FlatFunction) → function_at i flat_functions ≡ Some f → f.body ≡ built_term 1 no_terms → (a : Answer) → calls valued i [] ≡ Some a → a ≡ a_value (val 1 none))
+    (true_calls : (i : ℕ) (f : FlatFunction) → function_at i flat_functions ≡ Some f → (type : ℕ) × (f.body ≡ built_term type 1 no_terms) → (a : Answer) → calls valued i [] ≡ Some a → a ≡ a_value (val 1 none))
     (n : ℕ) (below : (m i : ℕ) → m < n → May m i) where
   -- an unguarded call is one that may be made
   abbrev Open : Held → Type 0
@@ -105,7 +105,7 @@ module _ (types : DataTypes) (flat_functions : List FlatFunction) (signs : ℕ �
   true_con place a e h = let k : a_value (val place none) ≡ a = cc in sym k ∙ ap (λ z. a_value (val z none)) e
 
   is_true : (g : FlatTerm) → IsTrueTerm types flat_functions signs g → (env : List Val) (a : Answer) → meaning calls g valued env ≡ Some a → a ≡ a_value (val 1 none)
-  is_true (built_term place no_terms) h env a e = true_con place a h e
+  is_true (built_term type place no_terms) h env a e = true_con place a h e
   is_true (call_term i no_terms) h env a e = true_calls i h.0 h.1 h.2 a e
   is_true (mark_term g) h env a e = is_true g h env a e
   is_true _ h env a e = absurd h
@@ -185,7 +185,7 @@ module _ (types : DataTypes) (flat_functions : List FlatFunction) (signs : ℕ �
   local_goes g j d env f e (tracing states inputs) a = absurd a
 
   con_goes : (place d : ℕ) (ts : FlatTerms) (ds : List ℕ) (env vs : List Val) → types.fields d place ≡ Some ds → values calls ts env ≡ Some vs → AllFit types ds vs → (mode : Mode) → Asked types (of_data d) mode
-      → Gives types (of_data d) (left mode) (Signals flat_functions (built_term place ts)) (meaning calls (built_term place ts) mode env)
+      → Gives types (of_data d) (left mode) (Signals flat_functions (built_term d place ts)) (meaning calls (built_term d place ts) mode env)
   con_goes place d ts ds env vs e h f valued a = record { answer = a_value (val place (vals vs)); gives = rw h refl; fits = (ds, e, as_fields types ds vs f); fewer = λ s. absurd (con_silent s) }
   con_goes place d ts ds env vs e h f (acting states) a = absurd a
   con_goes place d ts ds env vs e h f (tracing states inputs) a = absurd a

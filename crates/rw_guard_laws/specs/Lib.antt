@@ -1,2 +1,2 @@
 -- The words that public contracts rest on.
-pub mod Typed
+pub mod Guarded

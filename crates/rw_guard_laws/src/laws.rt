@@ -4,7 +4,8 @@ ghost use Rattle.std.specs.List.{AllByRecursion};
 ghost use Rattle.rw_core.specs.Values.{Val};
 ghost use Rattle.rw_core.specs.Systems.{System};
 ghost use Rattle.rw_core_flat.specs.Programs.{FlatFunction, FlatDenotes};
-ghost use Rattle.rw_guard_laws.specs.Typed.{DataTypes, Sign, Fits, IsGuarded};
+ghost use Rattle.rw_core_flat.specs.WellTyped.{DataTypes, Sign, Fits};
+ghost use Rattle.rw_guard_laws.specs.Guarded.{IsGuarded};
 
 /// A guarded flat program denotes exactly one list of outputs for every list of values of its input type: one more than the inputs,
 /// and each of its output type.

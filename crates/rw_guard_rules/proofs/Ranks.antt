@@ -122,7 +122,7 @@ module _ (functions : List FlatFunction) (set : ℕ → Bool) where
     mutual
       pub of_derived : (t : FlatTerm) → signals_by set t ≡ true → Signals functions t
       of_derived (local_term k) e = absurd (cc)
-      of_derived (built_term place ts) e = absurd (cc)
+      of_derived (built_term type place ts) e = absurd (cc)
       of_derived (case_term ts rows) e = signals_case (rows_of_derived rows e)
       of_derived (let_term lets t) e = signals_let (of_derived t e)
       of_derived (call_term i ts) e = let d = derived i e in signals_call d.0 d.1 d.2

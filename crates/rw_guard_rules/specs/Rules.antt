@@ -45,7 +45,7 @@ module _ (set : ℕ → Bool) where
   abbrev mutual
     pub signals_by : FlatTerm → Bool
     signals_by (local_term k) = false
-    signals_by (built_term place ts) = false
+    signals_by (built_term type place ts) = false
     signals_by (case_term ts rows) = rows_signal_by rows
     signals_by (let_term lets t) = signals_by t
     signals_by (call_term i ts) = set i
@@ -102,7 +102,7 @@ bound_nodes (built_pattern place ps) = 1 + patterns_nodes ps
 abbrev mutual
   pub nodes : FlatTerm → ℕ
   nodes (local_term k) = 1
-  nodes (built_term place ts) = 1 + nodes_all ts
+  nodes (built_term type place ts) = 1 + nodes_all ts
   nodes (case_term ts rows) = 1 + (nodes_all ts + nodes_rows rows)
   nodes (let_term lets t) = nodes_lets lets + nodes t
   nodes (call_term i ts) = 1 + nodes_all ts
@@ -143,7 +143,7 @@ module _ (set : ℕ → Bool) (depths : ℕ → ℕ) where
   abbrev mutual
     pub depth : List Step → FlatTerm → ℕ
     depth path (local_term k) = 1
-    depth path (built_term place ts) = 1 + depth_all (aside ∷ path) ts
+    depth path (built_term type place ts) = 1 + depth_all (aside ∷ path) ts
     depth path (case_term ts rows) = 1 + max (depth_all (aside ∷ path) ts) (depth_rows path rows)
     depth path (let_term lets t) = depth_lets path (depth (inward ∷ path) t) lets
     depth path (call_term i ts) = 1 + max (depth_all (aside ∷ path) ts) (if guarded_by set path then 1 else depths i)

@@ -45,7 +45,7 @@ pub record Held : Type 0 where
 abbrev mutual
   pub calls_in : List Step → FlatTerm → List Held
   calls_in path (local_term k) = []
-  calls_in path (built_term place ts) = calls_in_all (aside ∷ path) ts
+  calls_in path (built_term type place ts) = calls_in_all (aside ∷ path) ts
   calls_in path (case_term ts rows) = calls_in_all (aside ∷ path) ts ++ calls_in_rows path rows
   calls_in path (let_term lets t) = calls_in_lets (aside ∷ path) lets ++ calls_in (inward ∷ path) t
   calls_in path (call_term i ts) = record { path = path; callee = i } ∷ calls_in_all (aside ∷ path) ts

@@ -7,10 +7,10 @@ use Rattle.rw_core_flat.specs.Terms.{FlatPattern, any_pattern, bound_pattern, bu
 use Rattle.rw_core_flat.specs.Terms.{FlatTerm, local_term, built_term, case_term, let_term, call_term, mark_term, return_term, get_term, put_term, lift_term, bind_term, signal_term, extrude_term, FlatTerms, no_terms, more_terms}
 use Rattle.rw_core_flat.specs.Terms.{FlatLets, no_lets, more_lets, FlatRows, no_rows, more_rows, FlatArms, body_arm, no_arms, more_arms}
 use Rattle.rw_core_flat.specs.Meaning.{matched, row_matched}
-use Rattle.rw_core_flat.specs.Programs.{FlatFunction, function_at}
+use Rattle.rw_core_flat.specs.Programs.{FunctionKind, FlatFunction, function_at}
+use Rattle.rw_core_flat.specs.Programs as programs
 use Rattle.rw_core.specs.Systems.{System, leaf, side_by_side, fed_back}
 use Rattle.std.specs.List.{AllByRecursion}
-use Rattle.rw_guard_rules.specs.Signals.{Signals, CallsEnd}
 
 -- what monad: a state monad, or a device with these types of inputs and outputs
 pub data Monad : Type 0 where
@@ -25,6 +25,18 @@ pub data Kind : Type 0 where
 pub record Sign : Type 0 where
   pub params : List ℕ
   pub kind : Kind
+
+-- what a function says of itself
+abbrev pub computed : FunctionKind → ℕ → Kind
+computed programs.pure result = of_data result
+computed (programs.state layers) result = doing state layers result
+computed (programs.device i o layers) result = doing (device i o) layers result
+
+abbrev pub sign_of : FlatFunction → Sign
+sign_of f = record { params = f.params; kind = computed f.kind f.result }
+
+abbrev pub signs_of : List FlatFunction → ℕ → Option Sign
+signs_of functions i = do f ← function_at i functions; Some (sign_of f)
 
 -- data types: the fields of each constructor; the types of tests and of unit
 pub record DataTypes : Type 0 where
@@ -73,8 +85,8 @@ module _ (types : DataTypes) where
 module _ (types : DataTypes) (flat_functions : List FlatFunction) (signs : ℕ → Option Sign) where
   -- `True`, or a call of a function whose body is `True`
   abbrev pub IsTrueTerm : FlatTerm → Type 0
-  IsTrueTerm (built_term place no_terms) = place ≡ 1
-  IsTrueTerm (call_term i no_terms) = (f : FlatFunction) × (function_at i flat_functions ≡ Some f) × (f.body ≡ built_term 1 no_terms)
+  IsTrueTerm (built_term type place no_terms) = place ≡ 1
+  IsTrueTerm (call_term i no_terms) = (f : FlatFunction) × (function_at i flat_functions ≡ Some f) × ((type : ℕ) × (f.body ≡ built_term type 1 no_terms))
   IsTrueTerm (mark_term t) = IsTrueTerm t
   IsTrueTerm _ = ⊥
 
@@ -92,7 +104,7 @@ module _ (types : DataTypes) (flat_functions : List FlatFunction) (signs : ℕ �
   mutual
     pub data Typed : List ℕ → FlatTerm → Kind → Type 0 where
       is_local : {g : List ℕ} {k d : ℕ} → type_at k g ≡ Some d → Typed g (local_term k) (of_data d)
-      is_con : {g : List ℕ} {place d : ℕ} {ts : FlatTerms} (ds : List ℕ) → types.fields d place ≡ Some ds → AllTyped g ts ds → Typed g (built_term place ts) (of_data d)
+      is_con : {g : List ℕ} {place d : ℕ} {ts : FlatTerms} (ds : List ℕ) → types.fields d place ≡ Some ds → AllTyped g ts ds → Typed g (built_term d place ts) (of_data d)
       is_case : {g : List ℕ} {ts : FlatTerms} {rows : FlatRows} {k : Kind} (ds : List ℕ) → AllTyped g ts ds → RowsTyped g ds rows k → ((vs : List Val) → AllFit types ds vs → Matched rows vs) → Typed g (case_term ts rows) k
       is_let : {g : List ℕ} {lets : FlatLets} {t : FlatTerm} {k : Kind} (inner : List ℕ) → LetsTyped g lets inner → Typed inner t k → Typed g (let_term lets t) k
       is_call : {g : List ℕ} {i : ℕ} {ts : FlatTerms} {k : Kind} (ds : List ℕ) → signs i ≡ Some (record { params = ds; kind = k }) → AllTyped g ts ds → Typed g (call_term i ts) k
@@ -130,19 +142,14 @@ module _ (types : DataTypes) (flat_functions : List FlatFunction) (signs : ℕ �
   pub record FunctionTyped (i : ℕ) (s : Sign) : Type 0 where
     pub function : FlatFunction
     pub found : function_at i flat_functions ≡ Some function
-    pub counted : function.params ≡ length s.params
+    pub counted : length function.params ≡ length s.params
     pub typed : Typed s.params function.body s.kind
 
-  -- a system with these types of inputs and outputs, whose leaves are must-signal
+  -- a system with these types of inputs and outputs
   pub data SystemTyped : System ℕ ℕ → ℕ → ℕ → Type 0 where
-    leaf_typed : {k i o : ℕ} (d : ℕ) → signs k ≡ Some (record { params = []; kind = doing (device i o) [] d }) → Signals flat_functions (call_term k no_terms) → SystemTyped (leaf k) i o
+    leaf_typed : {k i o : ℕ} (d : ℕ) → signs k ≡ Some (record { params = []; kind = doing (device i o) [] d }) → SystemTyped (leaf k) i o
     pair_typed : {a b : System ℕ ℕ} {i o : ℕ} (i' i'' o' o'' : ℕ) → ((tag : ℕ) (ds : List ℕ) → types.fields i tag ≡ Some ds → ds ≡ i' ∷ i'' ∷ []) → types.fields o 0 ≡ Some (o' ∷ o'' ∷ [])
         → SystemTyped a i' o' → SystemTyped b i'' o'' → SystemTyped (side_by_side a b) i o
     fed_back_typed : {f g : ℕ} {a : System ℕ ℕ} {i o : ℕ} (i' o' : ℕ) → signs f ≡ Some (record { params = o' ∷ []; kind = of_data o }) → signs g ≡ Some (record { params = o' ∷ i ∷ []; kind = of_data i' })
         → SystemTyped a i' o' → SystemTyped (fed_back f g a) i o
 
--- a guarded flat program: it is well typed, its unguarded calls end, and its leaves are must-signal
-pub record IsGuarded (types : DataTypes) (flat_functions : List FlatFunction) (signs : ℕ → Option Sign) (system : System ℕ ℕ) (i o : ℕ) : Type 0 where
-  pub functions : (k : ℕ) (s : Sign) → signs k ≡ Some s → FunctionTyped types flat_functions signs k s
-  pub system_typed : SystemTyped types flat_functions signs system i o
-  pub ends : CallsEnd flat_functions
