@@ -1,2 +1,3 @@
 -- Lemmas about the definitions, which proofs above cite.
 pub mod Growing
+pub mod Values

@@ -1,5 +1,7 @@
 -- Well-typed flat terms, with data types as numbers.
-use Rattle.std.specs.Prelude.{◌≡◌, ℕ, zero, suc, ◌≤◌, List, [], ◌∷◌, ◌++◌, length, Option, Some, None, ◌⊎◌}
+use Rattle.std.specs.Prelude.{◌≡◌, ℕ, zero, suc, ◌≤◌, List, [], ◌∷◌, ◌++◌, length, Option, Some, None, ◌⊎◌, slice_get}
+use Rattle.rw_core.specs.declared.types.DataTy.{DataTy}
+use Rattle.rw_core.specs.Bits.{constructors_of}
 use Rattle.rw_core.specs.Values.{Val, Vals, val, none, more}
 use Rattle.rw_core.specs.Options.{◌>>=◌}
 use Rattle.rw_meaning.specs.Options.{Tried, taken}
@@ -45,6 +47,14 @@ pub record DataTypes : Type 0 where
   pub unit : ℕ
   pub truths : (tag : ℕ) (ds : List ℕ) → fields truth tag ≡ Some ds → tag ≤ 1
   pub units : fields unit 0 ≡ Some []
+
+-- the types of the fields of a constructor in a table
+abbrev pub fields_in : List DataTy → ℕ → ℕ → Option (List ℕ)
+fields_in table d tag = slice_get (constructors_of table d) tag
+
+-- these are the types of a table
+abbrev pub AreInTable : DataTypes → List DataTy → Type 0
+AreInTable types table = (d tag : ℕ) → types.fields d tag ≡ fields_in table d tag
 
 abbrev pub type_at : ℕ → List ℕ → Option ℕ
 type_at k [] = None

@@ -13,7 +13,7 @@ mod program;
 mod term;
 
 pub use function::{FlatFun, FunKind};
-pub use laws::{budgets_grow, one_list_is_shown};
+pub use laws::{budgets_grow, one_list_is_shown, values_of_types};
 pub use pattern::FPat;
 pub use program::{Flat, System};
 pub use term::{FArm, FArms, FLet, FRow, FTerm};
