@@ -1,0 +1,8 @@
+-- The induction on flattening.
+pub mod Rules
+pub mod Stands
+pub mod Matching
+pub mod Heads
+pub mod Devices
+pub mod Denoted
+pub mod Outputs
