@@ -18,8 +18,8 @@ use Rattle.rw_core_flat.specs.Terms.{FlatPattern, bound_pattern, no_patterns as 
 use Rattle.rw_core_flat.specs.Terms.{FlatTerm, local_term, built_term, case_term, let_term, call_term, FlatTerms, no_terms, more_terms}
 use Rattle.rw_core_flat.specs.Terms.{FlatLets, no_lets, more_lets, FlatRows, no_rows, more_rows, FlatArms}
 use Rattle.rw_core_flat.specs.Meaning.{Mode, valued, acting, tracing, Answer, a_value, as_value, got, value_at, matched, row_matched, meaning, values, bound, rows_meaning, arms_meaning}
-use Rattle.inline_ho_rules.specs.Flattening.{Meant, flat, suspended, local_use, Meants, no_meants, more_meants, meant_at, joined_meants, suspended_parts, flats}
-use Rattle.inline_ho_rules.specs.Flattening.{IsPattern, Columns, no_columns, value_column, other_column, AreMatched, none_matched, flat_matched, other_matched, AreVariables, none_variable, more_variable}
+use Rattle.inline_ho_rules.specs.Meants.{Meant, flat, suspended, local_use, Meants, no_meants, more_meants, meant_at, joined_meants, suspended_parts, flats}
+use Rattle.inline_ho_rules.specs.Meants.{IsPattern, Columns, no_columns, value_column, other_column, AreMatched, none_matched, flat_matched, other_matched, AreVariables, none_variable, more_variable}
 use Rattle.inline_ho_rules.specs.Flattening.{IsFlat, is_local, is_argument, is_used, is_called, is_inlined, is_constructor, is_application, is_tuple_of, is_lambda, is_let, is_case, is_if, is_last, is_run, is_bound, is_let_then, if_rows, is_return, is_signal, is_put, is_get, is_lift, is_bind, is_then, is_extrude}
 use Rattle.inline_ho_rules.specs.Flattening.{IsDatum, suspended_datum, flat_datum, AreData, no_data, more_data, IsLambda, lambda_body, lambda_named, lambda_matched, IsInlined, is_group, AreParams, no_params, data_param, function_param}
 use Rattle.inline_ho_rules.specs.Flattening.{IsBody, plain_body, rows_body, AreRows, none_rows, some_rows, AreArms, one_arm, guarded_arms, AreGuarded, none_guarded, some_guarded, IsPlaced, all_placed, data_placed, use_placed, pattern_placed}
@@ -34,6 +34,7 @@ use Rattle.inline_ho_laws.proofs.Devices.{reaches_operation, reaches_get, return
 use Rattle.inline_ho_laws.proofs.Heads.{local_given, forced_given, Declares, ClausesGive, RowsGive, declared_given, clauses_declare, reach_on, value_shown, value_stands, local_reached, constructor_reached, parts_meant, application_reached, tuple_reached, meant_many}
 use Rattle.inline_ho_laws.proofs.Heads.{clauses_reached, LambdaReaches, lambda_reached, case_given, let_given, kept_given, name_given, name_like, rows_there, placed_first, unplaced_meant, side_given, all_placed_meant, pattern_names_meant}
 use Rattle.inline_ho_laws.proofs.Heads.{Passes, Taken, the_rows, the_side, the_guards, only_row, then_given, else_given, last_given, let_then_given, action_reached, run_given, bind_given, rest_of, rest_reached, lambda_ends, lambda_steps, row_passes, row_takes, row_not_matched, reach_taken, rows_reached, rows_given, plain_taken, guard_reached}
+use Rattle.rw_meaning.specs.Systems.{binding_of}
 
 module _ (program : List (Declaration Bound)) (IsFunction : ℕ → ℕ → Type 0) (calls : Mode → ℕ → List Val → Option Answer) where
   -- what is reached from an expression
@@ -45,14 +46,14 @@ module _ (program : List (Declaration Bound)) (IsFunction : ℕ → ℕ → Type
   CallsAreRight = (i n : ℕ) → IsFunction i n → (mode : Mode) (vs : List Val) (ts : Thunks) → AllStand program ts vs → IfSome (calls mode i vs) (ReachesAnswer program (Declares program n) ts mode)
 
   -- an environment that has grown
-  pub record Grown (env : List Val) (d : ℕ) (ms : Meants) (ts : Thunks) (inner : List Val) : Type 0 where
+  pub record Grown (env : List Val) (d : ℕ) (ms : Meants Bound) (ts : Thunks) (inner : List Val) : Type 0 where
     pub others : List Val
     pub grown : env ++ others ≡ inner
     pub long : length inner ≡ d
     pub meant : AllMeant program inner ms ts
 
   -- that of parameters
-  pub record Taking (env : List Val) (n : ℕ) (ts : Thunks) (d : ℕ) (params rest : Meants) (inner : List Val) : Type 0 where
+  pub record Taking (env : List Val) (n : ℕ) (ts : Thunks) (d : ℕ) (params rest : Meants Bound) (inner : List Val) : Type 0 where
     pub others : List Val
     pub grown : env ++ others ≡ inner
     pub long : length inner ≡ d
@@ -60,13 +61,13 @@ module _ (program : List (Declaration Bound)) (IsFunction : ℕ → ℕ → Type
     pub rest_meant : AllMeant program inner rest (later_thunks n ts)
     pub enough : n ≤ how_many ts
 
-  pub kept_meant : (env others inner : List Val) (ms : Meants) (ts : Thunks) → env ++ others ≡ inner → AllMeant program env ms ts → AllMeant program inner ms ts
+  pub kept_meant : (env others inner : List Val) (ms : Meants Bound) (ts : Thunks) → env ++ others ≡ inner → AllMeant program env ms ts → AllMeant program inner ms ts
   kept_meant env others inner ms ts e h = subst (λ z. AllMeant program z ms ts) e (all_more program env others ms ts h)
 
-  grown_none : (env : List Val) (d : ℕ) (ms : Meants) (ts : Thunks) → length env ≡ d → AllMeant program env ms ts → Grown env d ms ts env
+  grown_none : (env : List Val) (d : ℕ) (ms : Meants Bound) (ts : Thunks) → length env ≡ d → AllMeant program env ms ts → Grown env d ms ts env
   grown_none env d ms ts e h = record { others = []; grown = append-nil env; long = e; meant = h }
 
-  grown_more : (env : List Val) (v : Val) (d : ℕ) (ms : Meants) (ts : Thunks) (inner : List Val) → Grown (env ++ v ∷ []) d ms ts inner → Grown env d ms ts inner
+  grown_more : (env : List Val) (v : Val) (d : ℕ) (ms : Meants Bound) (ts : Thunks) (inner : List Val) → Grown (env ++ v ∷ []) d ms ts inner → Grown env d ms ts inner
   grown_more env v d ms ts inner g = record { others = v ∷ g.others; grown = let e : (env ++ v ∷ []) ++ g.others ≡ inner = g.grown in rw append_assoc at e; long = g.long; meant = g.meant }
 
   last_meant : (env : List Val) (v : Val) (d : ℕ) (t : Thunk) → length env ≡ d → Stands program t v → MeantBy program (env ++ v ∷ []) (flat d) t
@@ -78,7 +79,7 @@ module _ (program : List (Declaration Bound)) (IsFunction : ℕ → ℕ → Type
 
   -- == One case each ==
 
-  local_case : (E : Meants) (a : Bound) (x : List ℕ) (k y : ℕ) → a.bound ≡ Some (Local k) → meant_at k E ≡ Some (flat y) → (env : List Val) (ρ ts : Thunks) (mode : Mode)
+  local_case : (E : Meants Bound) (a : Bound) (x : List ℕ) (k y : ℕ) → a.bound ≡ Some (Local k) → meant_at k E ≡ Some (flat y) → (env : List Val) (ρ ts : Thunks) (mode : Mode)
       → AllMeant program env E ρ → AllMeant program env no_meants ts → IfSome (meaning calls (local_term y) mode env) (Reached ρ (variable a x) ts mode)
   local_case E a x k y e g env ρ (and_then t ts) mode h i = absurd i
   local_case E a x k y e g env ρ nothing (acting states) h i = tt
@@ -89,7 +90,7 @@ module _ (program : List (Declaration Bound)) (IsFunction : ℕ → ℕ → Type
       local_reached program env y (Gives program (evaluate ρ (variable a x))) l.0 (value_at y env) valued (λ f. local_given program ρ a x k l.0 f e l.1) m.0 m.1 m.2
 
   -- a name that is kept as something
-  named_case : (E : Meants) (a : Bound) (x : List ℕ) (k : ℕ) (m : Meant) → a.bound ≡ Some (Local k) → meant_at k E ≡ Some m → (env : List Val) (ρ ts : Thunks) (mode : Mode) (answer : Option Answer)
+  named_case : (E : Meants Bound) (a : Bound) (x : List ℕ) (k : ℕ) (m : Meant Bound) → a.bound ≡ Some (Local k) → meant_at k E ≡ Some m → (env : List Val) (ρ ts : Thunks) (mode : Mode) (answer : Option Answer)
       → AllMeant program env E ρ → ((t : Thunk) → MeantBy program env m t → IfSome answer (ReachesAnswer program (Gives program (force t)) ts mode)) → IfSome answer (Reached ρ (variable a x) ts mode)
   named_case E a x k m e g env ρ ts mode answer h i =
       let l = looked_up program env k E ρ m h g in
@@ -115,7 +116,7 @@ module _ (program : List (Declaration Bound)) (IsFunction : ℕ → ℕ → Type
   flat_value y env t m = rw m.1 m.2
 
   -- what a suspended argument gives as a value
-  suspended_value : (E : Meants) (e : Expression Bound) (u : FlatTerm) (env : List Val) (t : Thunk) (ρ : Thunks) → ((n : ℕ) → result_within program (suc n) (force t) ≡ result_within program n (evaluate ρ e))
+  suspended_value : (E : Meants Bound) (e : Expression Bound) (u : FlatTerm) (env : List Val) (t : Thunk) (ρ : Thunks) → ((n : ℕ) → result_within program (suc n) (force t) ≡ result_within program n (evaluate ρ e))
       → IfSome (meaning calls u valued env) (Reached ρ e nothing valued) → IfSome (meaning calls u valued env >>= as_value) (Stands program t)
   suspended_value E e u env t ρ like h = value_stands program _ t (meaning calls u valued env) (λ f g. forced_given program t (λ n. result_within program n (evaluate ρ e)) f like g) h
 
@@ -124,7 +125,7 @@ module _ (program : List (Declaration Bound)) (IsFunction : ℕ → ℕ → Type
       → ((v : Val) → Stands program t v → IfSome (bound calls lets (env ++ v ∷ [])) P) → IfSome (bound calls (more_lets bound_pattern u lets) env) P
   bound_case u lets env t P h k = if_on _ _ (meaning calls u valued env >>= as_value) _ h k
 
-  group_case : (ρ : Thunks) (cs : Alternatives Bound) (ts : Thunks) (lets : FlatLets) (t : FlatTerm) (d : ℕ) (params rest : Meants) (env : List Val) (mode : Mode)
+  group_case : (ρ : Thunks) (cs : Alternatives Bound) (ts : Thunks) (lets : FlatLets) (t : FlatTerm) (d : ℕ) (params rest : Meants Bound) (env : List Val) (mode : Mode)
       → IfSome (bound calls lets env) (Taking env (patterns_before cs) ts d params rest)
       → ((inner : List Val) → Taking env (patterns_before cs) ts d params rest inner
       → IfSome (meaning calls t mode inner) (ReachesAnswer program (RowsGive program ρ cs (first_thunks (patterns_before cs) ts)) (later_thunks (patterns_before cs) ts) mode))
@@ -132,14 +133,14 @@ module _ (program : List (Declaration Bound)) (IsFunction : ℕ → ℕ → Type
   group_case ρ cs ts lets t d params rest env mode h k = if_on _ _ (bound calls lets env) _ h (λ inner g. clauses_reached program ρ cs ts mode (meaning calls t mode inner) g.enough (k inner g))
 
   -- variables match
-  variables_match : (env : List Val) (pats : List (Pattern Bound)) (params : Meants) (ps : Thunks) → AreVariables pats params → AllMeant program env params ps
+  variables_match : (env : List Val) (pats : List (Pattern Bound)) (params : Meants Bound) (ps : Thunks) → AreVariables pats params → AllMeant program env params ps
       → (n : ℕ) → match_row program (result_within program n) pats ps ≡ taken ps
   variables_match env pats params nothing none_variable h n = refl
   variables_match env pats params (and_then p ps) none_variable h n = absurd h
   variables_match env pats params nothing (more_variable vs) h n = absurd h
   variables_match env (q ∷ qs) (more_meants m ms) (and_then p ps) (more_variable vs) h n = rw (variables_match env qs ms ps vs h.1 n)
 
-  columns_meant : (env : List Val) (params : Meants) (cols : Columns) (us : FlatTerms) (ps : Thunks) → AreMatched params cols us → AllMeant program env params ps → IfSome (values calls us env) (ColumnsMeant program env cols ps)
+  columns_meant : (env : List Val) (params : Meants Bound) (cols : Columns Bound) (us : FlatTerms) (ps : Thunks) → AreMatched params cols us → AllMeant program env params ps → IfSome (values calls us env) (ColumnsMeant program env cols ps)
   columns_meant env params cols us nothing none_matched h = tt
   columns_meant env params cols us (and_then p ps) none_matched h = absurd h
   columns_meant env params cols us nothing (flat_matched m) h = absurd h
@@ -155,7 +156,7 @@ module _ (program : List (Declaration Bound)) (IsFunction : ℕ → ℕ → Type
     pub grown : env ++ others ≡ inner
     pub takes : PatternTakes program n (matching program p t) others
 
-  opened : (q : FlatPattern) (u : FlatTerm) (n : ℕ) (p : Pattern Bound) (env : List Val) (t : Thunk) → IsPattern p q n → IfSome (meaning calls u valued env >>= as_value) (Stands program t)
+  opened : (q : FlatPattern) (u : FlatTerm) (n : ℕ) (p : Pattern Bound) (env : List Val) (t : Thunk) → IsPattern binding_of p q n → IfSome (meaning calls u valued env >>= as_value) (Stands program t)
       → IfSome (bound calls (more_lets q u no_lets) env) (Opens env n p t)
   opened q u n p env t i h = if_on _ _ (meaning calls u valued env >>= as_value) _ h
       (λ v s. if_on (PatternTakes program n (matching program p t)) _ (what_is_taken (matched q v)) _ (if_taken _ _ (matched q v) (pattern_is_matched program i t v s)) (λ ws w. record { others = ws; grown = refl; takes = w }))
@@ -166,13 +167,13 @@ module _ (program : List (Declaration Bound)) (IsFunction : ℕ → ℕ → Type
       let b : length o.others ≡ n = o.takes.many in
       let c : length (env ++ o.others) ≡ n + d = omega arith in subst (λ z. length z ≡ n + d) o.grown c
 
-  opens_meant : (env : List Val) (d n : ℕ) (p : Pattern Bound) (t : Thunk) (inner : List Val) (E : Meants) (ρ : Thunks) → length env ≡ d → (o : Opens env n p t inner) → AllMeant program env E ρ
+  opens_meant : (env : List Val) (d n : ℕ) (p : Pattern Bound) (t : Thunk) (inner : List Val) (E : Meants Bound) (ρ : Thunks) → length env ≡ d → (o : Opens env n p t inner) → AllMeant program env E ρ
       → AllMeant program inner (joined_meants E (flats d n)) (joined ρ o.takes.them)
   opens_meant env d n p t inner E ρ l o h =
       all_joined program inner E (flats d n) ρ o.takes.them (kept_meant env o.others inner E ρ o.grown h)
       (subst (λ z. AllMeant program z (flats d n) o.takes.them) o.grown (flats_meant program env o.others o.takes.them d n l o.takes.many o.takes.stand))
 
-  lambda_case : (q : FlatPattern) (u : FlatTerm) (n : ℕ) (p : Pattern Bound) (ps : List (Pattern Bound)) (body : Expression Bound) (t : FlatTerm) (env : List Val) (ρ : Thunks) (th : Thunk) (ts : Thunks) (mode : Mode) → IsPattern p q n
+  lambda_case : (q : FlatPattern) (u : FlatTerm) (n : ℕ) (p : Pattern Bound) (ps : List (Pattern Bound)) (body : Expression Bound) (t : FlatTerm) (env : List Val) (ρ : Thunks) (th : Thunk) (ts : Thunks) (mode : Mode) → IsPattern binding_of p q n
       → IfSome (meaning calls u valued env >>= as_value) (Stands program th)
       → ((inner : List Val) (o : Opens env n p th inner) → IfSome (meaning calls t mode inner) (LambdaReaches program (joined ρ o.takes.them) ps body ts mode))
       → IfSome (meaning calls (let_term (more_lets q u no_lets) t) mode env) (LambdaReaches program ρ (p ∷ ps) body (and_then th ts) mode)
@@ -180,7 +181,7 @@ module _ (program : List (Declaration Bound)) (IsFunction : ℕ → ℕ → Type
       (λ inner o. lambda_steps program ρ o.takes.them p ps body th ts mode (meaning calls t mode inner) o.takes.had (k inner o))
 
   -- one more parameter
-  taking_data : (env : List Val) (v : Val) (n d d' : ℕ) (t : Thunk) (ts : Thunks) (params rest : Meants) (inner : List Val) → length env ≡ d → Stands program t v → Taking (env ++ v ∷ []) n ts d' params rest inner
+  taking_data : (env : List Val) (v : Val) (n d d' : ℕ) (t : Thunk) (ts : Thunks) (params rest : Meants Bound) (inner : List Val) → length env ≡ d → Stands program t v → Taking (env ++ v ∷ []) n ts d' params rest inner
       → Taking env (suc n) (and_then t ts) d' (more_meants (flat d) params) rest inner
   taking_data env v n d d' t ts params rest inner l s w = record {
     others = v ∷ w.others;
@@ -191,7 +192,7 @@ module _ (program : List (Declaration Bound)) (IsFunction : ℕ → ℕ → Type
     enough = let e = w.enough in omega arith;
   }
 
-  taking_function : (env : List Val) (n d' : ℕ) (m : Meant) (t : Thunk) (ts : Thunks) (params rest : Meants) (inner : List Val) → MeantBy program env m t → Taking env n ts d' params rest inner
+  taking_function : (env : List Val) (n d' : ℕ) (m : Meant Bound) (t : Thunk) (ts : Thunks) (params rest : Meants Bound) (inner : List Val) → MeantBy program env m t → Taking env n ts d' params rest inner
       → Taking env (suc n) (and_then t ts) d' (more_meants m params) rest inner
   taking_function env n d' m t ts params rest inner h w = record {
     others = w.others;
@@ -203,7 +204,7 @@ module _ (program : List (Declaration Bound)) (IsFunction : ℕ → ℕ → Type
   }
 
   -- a suspended argument, forced
-  forced_case : (E : Meants) (e : Expression Bound) (env : List Val) (th ts : Thunk) (ρ args : Thunks) (mode : Mode) (x : Option Answer) → ((n : ℕ) → result_within program (suc n) (force th) ≡ result_within program n (evaluate ρ e))
+  forced_case : (E : Meants Bound) (e : Expression Bound) (env : List Val) (th ts : Thunk) (ρ args : Thunks) (mode : Mode) (x : Option Answer) → ((n : ℕ) → result_within program (suc n) (force th) ≡ result_within program n (evaluate ρ e))
       → IfSome x (Reached ρ e args mode) → IfSome x (ReachesAnswer program (Gives program (force th)) args mode)
   forced_case E e env th ts ρ args mode x like h = reach_on program _ (Gives program (force th)) args mode x (λ f g. forced_given program th (λ n. result_within program n (evaluate ρ e)) f like g) h
 
@@ -242,7 +243,7 @@ module _ (program : List (Declaration Bound)) (IsFunction : ℕ → ℕ → Type
       parts (val tag fields) w = (tag, fields, refl, w.0, w.1, w.2)
 
   -- the right side of a pattern binding
-  side_case : (ρ : Thunks) (body : RightSide Bound) (wheres : LocalBindings Bound) (lets : FlatLets) (arms : FlatArms) (env : List Val) (d : ℕ) (ns : Meants) (names : Thunks) → IfSome (bound calls lets (env ++ [])) (Grown (env ++ []) d ns names)
+  side_case : (ρ : Thunks) (body : RightSide Bound) (wheres : LocalBindings Bound) (lets : FlatLets) (arms : FlatArms) (env : List Val) (d : ℕ) (ns : Meants Bound) (names : Thunks) → IfSome (bound calls lets (env ++ [])) (Grown (env ++ []) d ns names)
       → ((inner : List Val) → Grown (env ++ []) d ns names inner → Whichever (arms_meaning calls arms valued inner) (Passes program (the_side program (inside_names ρ wheres) body)) (ReachesAnswer program (Taken program (the_side program (inside_names ρ wheres) body)) nothing valued))
       → IfSome (meaning calls (case_term no_terms (more_rows no_flat_patterns lets arms no_rows)) valued env >>= as_value) (Stands program (kept_side ρ body wheres))
   side_case ρ body wheres lets arms env d ns names h k =
@@ -256,12 +257,12 @@ module _ (program : List (Declaration Bound)) (IsFunction : ℕ → ℕ → Type
       (λ z. tt) (λ a r. r) (λ x y. tt) (λ a x z. absurd z)))
 
   -- bind the variables of a pattern
-  matched_case : (q : FlatPattern) (u : FlatTerm) (lets : FlatLets) (n : ℕ) (p : Pattern Bound) (env : List Val) (t : Thunk) (P : List Val → Type 0) → IsPattern p q n → IfSome (meaning calls u valued env >>= as_value) (Stands program t)
+  matched_case : (q : FlatPattern) (u : FlatTerm) (lets : FlatLets) (n : ℕ) (p : Pattern Bound) (env : List Val) (t : Thunk) (P : List Val → Type 0) → IsPattern binding_of p q n → IfSome (meaning calls u valued env >>= as_value) (Stands program t)
       → ((ws : List Val) → PatternTakes program n (matching program p t) ws → IfSome (bound calls lets (env ++ ws)) P) → IfSome (bound calls (more_lets q u lets) env) P
   matched_case q u lets n p env t P i h k = if_on _ _ (meaning calls u valued env >>= as_value) _ h
       (λ v s. if_on (PatternTakes program n (matching program p t)) _ (what_is_taken (matched q v)) _ (if_taken _ _ (matched q v) (pattern_is_matched program i t v s)) k)
 
-  grown_by : (env ws : List Val) (d : ℕ) (ms : Meants) (ts : Thunks) (inner : List Val) → Grown (env ++ ws) d ms ts inner → Grown env d ms ts inner
+  grown_by : (env ws : List Val) (d : ℕ) (ms : Meants Bound) (ts : Thunks) (inner : List Val) → Grown (env ++ ws) d ms ts inner → Grown env d ms ts inner
   grown_by env ws d ms ts inner g = record { others = ws ++ g.others; grown = let e : (env ++ ws) ++ g.others ≡ inner = g.grown in rw append_assoc at e; long = g.long; meant = g.meant }
 
   long_by : (env ws : List Val) (d n : ℕ) → length env ≡ d → length ws ≡ n → length (env ++ ws) ≡ n + d
@@ -271,7 +272,7 @@ module _ (program : List (Declaration Bound)) (IsFunction : ℕ → ℕ → Type
 
   module _ (right : CallsAreRight) where
     mutual
-      pub flat_law : {d : ℕ} {E : Meants} {e : Expression Bound} {args : Meants} {t : FlatTerm} → IsFlat program IsFunction d E e args t → (env : List Val) (ρ ts : Thunks) (mode : Mode) → length env ≡ d
+      pub flat_law : {d : ℕ} {E : Meants Bound} {e : Expression Bound} {args : Meants Bound} {t : FlatTerm} → IsFlat program IsFunction d E e args t → (env : List Val) (ρ ts : Thunks) (mode : Mode) → length env ≡ d
           → AllMeant program env E ρ → AllMeant program env args ts → IfSome (meaning calls t mode env) (Reached ρ e ts mode)
       flat_law (is_local {E = E} {a = a} {x = x} {k = k} {y = y} e g) env ρ ts mode l h i = local_case E a x k y e g env ρ ts mode h i
       flat_law (is_argument {E = E} {a = a} {x = x} {k = k} {E' = E'} {e = e} {t = t} b g f) env ρ ts mode l h i =
@@ -382,18 +383,18 @@ module _ (program : List (Declaration Bound)) (IsFunction : ℕ → ℕ → Type
           (λ b r. reach_taken program _ _ ts mode b (λ o q. case_given program ρ a e cs o (rows_given program ρ cs (and_then (kept ρ e) nothing) o q)) r)
           (rows_law g env ρ (and_then (kept ρ e) nothing) vs ts mode l h c i)))
 
-      pub data_law : {d : ℕ} {args : Meants} {us : FlatTerms} → AreData program IsFunction d args us → (env : List Val) (ts : Thunks) → length env ≡ d → AllMeant program env args ts → IfSome (values calls us env) (AllStand program ts)
+      pub data_law : {d : ℕ} {args : Meants Bound} {us : FlatTerms} → AreData program IsFunction d args us → (env : List Val) (ts : Thunks) → length env ≡ d → AllMeant program env args ts → IfSome (values calls us env) (AllStand program ts)
       data_law no_data env nothing l h = tt
       data_law no_data env (and_then t ts) l h = absurd h
       data_law (more_data f g) env nothing l h = absurd h
       data_law (more_data {t = u} {ts = us} f g) env (and_then t ts) l h = data_case u us env t ts (datum_law f env t l h.0) (data_law g env ts l h.1)
 
-      pub datum_law : {d : ℕ} {m : Meant} {u : FlatTerm} → IsDatum program IsFunction d m u → (env : List Val) (t : Thunk) → length env ≡ d → MeantBy program env m t
+      pub datum_law : {d : ℕ} {m : Meant Bound} {u : FlatTerm} → IsDatum program IsFunction d m u → (env : List Val) (t : Thunk) → length env ≡ d → MeantBy program env m t
           → IfSome (meaning calls u valued env >>= as_value) (Stands program t)
       datum_law (suspended_datum {E = E} {e = e} {t = u} f) env t l h = suspended_value E e u env t h.0 h.1 (flat_law f env h.0 nothing valued l h.2 tt)
       datum_law (flat_datum {y = y}) env t l h = flat_value y env t h
 
-      pub lambda_law : {d : ℕ} {E : Meants} {ps : List (Pattern Bound)} {body : Expression Bound} {args : Meants} {t : FlatTerm} → IsLambda program IsFunction d E ps body args t
+      pub lambda_law : {d : ℕ} {E : Meants Bound} {ps : List (Pattern Bound)} {body : Expression Bound} {args : Meants Bound} {t : FlatTerm} → IsLambda program IsFunction d E ps body args t
           → (env : List Val) (ρ ts : Thunks) (mode : Mode) → length env ≡ d → AllMeant program env E ρ → AllMeant program env args ts → IfSome (meaning calls t mode env) (LambdaReaches program ρ ps body ts mode)
       lambda_law (lambda_body {body = body} {t = t} f) env ρ ts mode l h i = lambda_ends program ρ body ts mode (meaning calls t mode env) (flat_law f env ρ ts mode l h i)
       lambda_law (lambda_named f) env ρ nothing mode l h i = absurd i
@@ -405,13 +406,13 @@ module _ (program : List (Declaration Bound)) (IsFunction : ℕ → ℕ → Type
           lambda_case q s n p ps body t env ρ th ts mode k (datum_law f env th l i.0)
           (λ inner o. lambda_law g inner (joined ρ o.takes.them) ts mode (opens_long env d n p th inner l o) (opens_meant env d n p th inner E ρ l o h) (kept_meant env o.others inner args ts o.grown i.1))
 
-      pub inlined_law : {d : ℕ} {E : Meants} {cs : Alternatives Bound} {args : Meants} {t : FlatTerm} → IsInlined program IsFunction d E cs args t
+      pub inlined_law : {d : ℕ} {E : Meants Bound} {cs : Alternatives Bound} {args : Meants Bound} {t : FlatTerm} → IsInlined program IsFunction d E cs args t
           → (env : List Val) (ρ ts : Thunks) (mode : Mode) → length env ≡ d → AllMeant program env E ρ → AllMeant program env args ts → IfSome (meaning calls t mode env) (ReachesAnswer program (ClausesGive program ρ cs) ts mode)
       inlined_law (is_group {d' = d'} {E = E} {params = params} {rest = rest} {cs = cs} {lets = lets} {t = t} f g) env ρ ts mode l h i =
           group_case ρ cs ts lets t d' params rest env mode (params_law f env ts l i)
           (λ inner w. body_law g inner ρ (first_thunks (patterns_before cs) ts) (later_thunks (patterns_before cs) ts) mode w.long (kept_meant env w.others inner E ρ w.grown h) w.params_meant w.rest_meant)
 
-      pub params_law : {d n : ℕ} {args : Meants} {lets : FlatLets} {d' : ℕ} {params rest : Meants} → AreParams program IsFunction d n args lets d' params rest
+      pub params_law : {d n : ℕ} {args : Meants Bound} {lets : FlatLets} {d' : ℕ} {params rest : Meants Bound} → AreParams program IsFunction d n args lets d' params rest
           → (env : List Val) (ts : Thunks) → length env ≡ d → AllMeant program env args ts → IfSome (bound calls lets env) (Taking env n ts d' params rest)
       params_law no_params env ts l i = record { others = []; grown = append-nil env; long = l; params_meant = tt; rest_meant = i; enough = omega arith }
       params_law (data_param f g) env nothing l i = absurd i
@@ -423,7 +424,7 @@ module _ (program : List (Declaration Bound)) (IsFunction : ℕ → ℕ → Type
       params_law (function_param {d' = d'} {n = n} {E = E} {params = params} {rest = rest} {e = e} {lets = lets} g) env (and_then th ts) l i =
           if_map _ _ (bound calls lets env) (λ inner w. taking_function env n d' (suspended E e) th ts params rest inner i.0 w) (params_law g env ts l i.1)
 
-      pub body_law : {d : ℕ} {E : Meants} {cs : Alternatives Bound} {params args : Meants} {t : FlatTerm} → IsBody program IsFunction d E cs params args t
+      pub body_law : {d : ℕ} {E : Meants Bound} {cs : Alternatives Bound} {params args : Meants Bound} {t : FlatTerm} → IsBody program IsFunction d E cs params args t
           → (env : List Val) (ρ ps ts : Thunks) (mode : Mode) → length env ≡ d → AllMeant program env E ρ → AllMeant program env params ps → AllMeant program env args ts
           → IfSome (meaning calls t mode env) (ReachesAnswer program (RowsGive program ρ cs ps) ts mode)
       body_law (plain_body {E = E} {params = params} {args = args} {ms = ms} {a = a} {pats = pats} {e = e} {wheres = wheres} {lets = lets} {t = t} v f g) env ρ ps ts mode l h i j =
@@ -441,7 +442,7 @@ module _ (program : List (Declaration Bound)) (IsFunction : ℕ → ℕ → Type
           (λ b r. reach_taken program _ _ ts mode b (λ o q. rows_given program ρ cs ps o q) r)
           (rows_law f env ρ ps vs ts mode l h c j)))
 
-      pub rows_law : {d : ℕ} {E : Meants} {cols : Columns} {cs : Alternatives Bound} {args : Meants} {frows : FlatRows} → AreRows program IsFunction d E cols cs args frows
+      pub rows_law : {d : ℕ} {E : Meants Bound} {cols : Columns Bound} {cs : Alternatives Bound} {args : Meants Bound} {frows : FlatRows} → AreRows program IsFunction d E cols cs args frows
           → (env : List Val) (ρ ps : Thunks) (vs : List Val) (ts : Thunks) (mode : Mode) → length env ≡ d → AllMeant program env E ρ → ColumnsMeant program env cols ps vs → AllMeant program env args ts
           → Whichever (rows_meaning calls frows mode env vs) (Passes program (the_rows program ρ cs ps)) (ReachesAnswer program (Taken program (the_rows program ρ cs ps)) ts mode)
       rows_law none_rows env ρ ps vs ts mode l h c i = always (λ n. refl)
@@ -464,14 +465,14 @@ module _ (program : List (Declaration Bound)) (IsFunction : ℕ → ℕ → Type
           (kept_meant (env ++ ws) u.others inner args ts u.grown (all_more program env ws args ts i))))))
           (rows_law k env ρ ps vs ts mode l h c i)
 
-      pub arms_law : {d : ℕ} {E : Meants} {body : RightSide Bound} {args : Meants} {arms : FlatArms} → AreArms program IsFunction d E body args arms
+      pub arms_law : {d : ℕ} {E : Meants Bound} {body : RightSide Bound} {args : Meants Bound} {arms : FlatArms} → AreArms program IsFunction d E body args arms
           → (env : List Val) (ρ ts : Thunks) (mode : Mode) → length env ≡ d → AllMeant program env E ρ → AllMeant program env args ts
           → Whichever (arms_meaning calls arms mode env) (Passes program (the_side program ρ body)) (ReachesAnswer program (Taken program (the_side program ρ body)) ts mode)
       arms_law (one_arm {e = e} {t = t} f) env ρ ts mode l h i =
           whichever_tried _ _ (meaning calls t mode env) (reach_on program (Gives program (evaluate ρ e)) _ ts mode (meaning calls t mode env) (λ r. plain_taken program ρ e r) (flat_law f env ρ ts mode l h i))
       arms_law (guarded_arms f) env ρ ts mode l h i = guarded_law f env ρ ts mode l h i
 
-      pub guarded_law : {d : ℕ} {E : Meants} {bodies : GuardedBodies Bound} {args : Meants} {arms : FlatArms} → AreGuarded program IsFunction d E bodies args arms
+      pub guarded_law : {d : ℕ} {E : Meants Bound} {bodies : GuardedBodies Bound} {args : Meants Bound} {arms : FlatArms} → AreGuarded program IsFunction d E bodies args arms
           → (env : List Val) (ρ ts : Thunks) (mode : Mode) → length env ≡ d → AllMeant program env E ρ → AllMeant program env args ts
           → Whichever (arms_meaning calls arms mode env) (Passes program (the_guards program ρ bodies)) (ReachesAnswer program (Taken program (the_guards program ρ bodies)) ts mode)
       guarded_law none_guarded env ρ ts mode l h i = always (λ n. refl)
@@ -480,7 +481,7 @@ module _ (program : List (Declaration Bound)) (IsFunction : ℕ → ℕ → Type
           (whichever_tried ⊥ _ (meaning calls s valued env >>= as_value) (value_shown program _ (meaning calls s valued env) (flat_law f env ρ nothing valued l h tt))) (λ z. absurd z)
           (λ v w. guard_reached program ρ g e others ts mode (meaning calls t mode env) (arms_meaning calls arms mode env) v w.0 w.1 w.2 (flat_law k env ρ ts mode l h i) (guarded_law m env ρ ts mode l h i))
 
-      pub placed_law : {group : LocalBindings Bound} {d : ℕ} {E ms : Meants} {lets : FlatLets} {d' : ℕ} {ns : Meants} → IsPlaced program IsFunction group d E ms lets d' ns
+      pub placed_law : {group : LocalBindings Bound} {d : ℕ} {E ms : Meants Bound} {lets : FlatLets} {d' : ℕ} {ns : Meants Bound} → IsPlaced program IsFunction group d E ms lets d' ns
           → (env : List Val) (ρ : Thunks) → length env ≡ d → AllMeant program env E ρ → AllMeant program env ms (kept_names ρ group 0 (length (group_variables group)))
           → IfSome (bound calls lets env) (Grown env d' ns (kept_names ρ group 0 (length (group_variables group))))
       placed_law (all_placed {d = d} {ms = ms}) env ρ l h i = grown_none env d ms _ l i

@@ -18,7 +18,7 @@ use Rattle.rw_meaning.specs.Options.{Tried, stuck, passed_over, taken, and_try, 
 use Rattle.rw_meaning.specs.Results.{Outcome, datum, waiting_for_more, action, of_clauses, of_lambda, of_constructor, Thunk, kept, kept_name, kept_side, known, Thunks, nothing, and_then, joined, how_many, thunk_at, first_thunks, later_thunks}
 use Rattle.rw_meaning.specs.Evaluation.{Task, evaluate, force, apply, step, result_within, applied, clauses_there, row, rows, side, guards, name_in, kept_parts, kept_names, inside_names, patterns_before, declaration_at, declared_there, fields_at, constructors_in, constructed, match, match_row, if_true}
 use Rattle.rw_core_flat.specs.Meaning.{Mode, valued, Answer, a_value, done, traced as a_trace, as_value, if_holds, value_at}
-use Rattle.inline_ho_rules.specs.Flattening.{Meant, flat, Meants, no_meants, more_meants, meant_count, placed, all_unplaced, suspended_parts, flats, clauses_at, declared_clauses, StandsIn, stands_here, stands_later, placed_all}
+use Rattle.inline_ho_rules.specs.Meants.{Meant, flat, Meants, no_meants, more_meants, meant_count, placed, all_unplaced, suspended_parts, flats, clauses_at, declared_clauses, StandsIn, stands_here, stands_later, placed_all}
 use Rattle.rw_core.specs.Eventually.{Eventually}
 use Rattle.rw_core.proofs.Eventually.{always, mapped, mapped_two, later, if_map}
 use Rattle.std.specs.Option.{IfSome}
@@ -143,7 +143,7 @@ module _ (program : List (Declaration Bound)) where
     observed = (refl, fields_stand program ts vs s);
   }
 
-  pub parts_meant : (env : List Val) (E : Meants) (ρ : Thunks) (parts : Expressions Bound) → AllMeant program env E ρ → AllMeant program env (suspended_parts E parts) (kept_parts ρ parts)
+  pub parts_meant : (env : List Val) (E : Meants Bound) (ρ : Thunks) (parts : Expressions Bound) → AllMeant program env E ρ → AllMeant program env (suspended_parts E parts) (kept_parts ρ parts)
   unfolding result_within
   parts_meant env E ρ no_expressions h = tt
   parts_meant env E ρ (more_expressions e es) h = ((ρ, (λ n. refl), h), parts_meant env E ρ es h)
@@ -164,7 +164,7 @@ module _ (program : List (Declaration Bound)) where
     observed = (refl, fields_stand program (kept_parts ρ parts) vs s);
   }
 
-  pub meant_many : (env : List Val) (ms : Meants) (ts : Thunks) → AllMeant program env ms ts → meant_count ms ≡ how_many ts
+  pub meant_many : (env : List Val) (ms : Meants Bound) (ts : Thunks) → AllMeant program env ms ts → meant_count ms ≡ how_many ts
   meant_many env no_meants nothing h = refl
   meant_many env no_meants (and_then t ts) h = absurd h
   meant_many env (more_meants m ms) nothing h = absurd h
@@ -258,7 +258,7 @@ module _ (program : List (Declaration Bound)) where
   pub rows_there : (ρ : Thunks) (cs : Alternatives Bound) (f : Outcome) → patterns_before cs ≡ 0 → RowsGive ρ cs nothing f → ClausesGive ρ cs f
   rows_there ρ cs f e h = mapped (λ n i. rw e i) h
 
-  pub placed_meant : (env : List Val) (m : Meant) (ρ : Thunks) (group : LocalBindings Bound) (k : ℕ) (ms : Meants) (j n : ℕ) → AllMeant program env ms (kept_names ρ group j n) → MeantBy program env m (kept_name ρ group (j + k))
+  pub placed_meant : (env : List Val) (m : Meant Bound) (ρ : Thunks) (group : LocalBindings Bound) (k : ℕ) (ms : Meants Bound) (j n : ℕ) → AllMeant program env ms (kept_names ρ group j n) → MeantBy program env m (kept_name ρ group (j + k))
       → AllMeant program env (placed k m ms) (kept_names ρ group j n)
   placed_meant env m ρ group k no_meants j zero h i = tt
   placed_meant env m ρ group k no_meants j (suc n) h i = absurd h
@@ -268,7 +268,7 @@ module _ (program : List (Declaration Bound)) where
   placed_meant env m ρ group (suc k) (more_meants x ms) j (suc n) h i =
       let e : j + suc k ≡ suc j + k = omega arith in (h.0, placed_meant env m ρ group k ms (suc j) n h.1 (subst (λ z. MeantBy program env m (kept_name ρ group z)) e i))
 
-  pub placed_first : (env : List Val) (m : Meant) (ρ : Thunks) (group : LocalBindings Bound) (k : ℕ) (ms : Meants) (n : ℕ) → AllMeant program env ms (kept_names ρ group 0 n) → MeantBy program env m (kept_name ρ group k)
+  pub placed_first : (env : List Val) (m : Meant Bound) (ρ : Thunks) (group : LocalBindings Bound) (k : ℕ) (ms : Meants Bound) (n : ℕ) → AllMeant program env ms (kept_names ρ group 0 n) → MeantBy program env m (kept_name ρ group k)
       → AllMeant program env (placed k m ms) (kept_names ρ group 0 n)
   placed_first env m ρ group k ms n h i = let e : k ≡ 0 + k = omega arith in placed_meant env m ρ group k ms 0 n h (subst (λ z. MeantBy program env m (kept_name ρ group z)) e i)
 
@@ -500,7 +500,7 @@ module _ (program : List (Declaration Bound)) where
   side_given ρ body wheres f h = gives_step program _ f (mapped (λ n e. what_was _ f e) h)
 
   -- all names of a pattern binding are placed
-  pub all_placed_meant : (env : List Val) (ρ : Thunks) (group : LocalBindings Bound) (many n k d : ℕ) (ms : Meants) → ((i : ℕ) → suc i ≤ n → MeantBy program env (flat (d + i)) (kept_name ρ group (k + i)))
+  pub all_placed_meant : (env : List Val) (ρ : Thunks) (group : LocalBindings Bound) (many n k d : ℕ) (ms : Meants Bound) → ((i : ℕ) → suc i ≤ n → MeantBy program env (flat (d + i)) (kept_name ρ group (k + i)))
       → AllMeant program env ms (kept_names ρ group 0 many) → AllMeant program env (placed_all k (flats d n) ms) (kept_names ρ group 0 many)
   all_placed_meant env ρ group many zero k d ms h i = i
   all_placed_meant env ρ group many (suc n) k d ms h i =

@@ -12,13 +12,14 @@ use Rattle.rw_meaning.specs.Results.{Outcome, datum, Thunk, Thunks, nothing, and
 use Rattle.rw_meaning.specs.Evaluation.{force, result_within, match, match_parts, match_row, fields_if, fields_of}
 use Rattle.rw_core_flat.specs.Terms.{FlatPattern, built_pattern, FlatPatterns}
 use Rattle.rw_core_flat.specs.Meaning.{matched, parts_matched, row_matched}
-use Rattle.inline_ho_rules.specs.Flattening.{Meant, Meants, no_meants, more_meants, joined_meants, flats, IsPattern, is_any, is_variable, is_built, is_tuple, ArePatterns, none_are, more_are, Columns, no_columns, value_column, other_column, AreColumns, none_in, matched_in, named_in, ignored_in}
+use Rattle.inline_ho_rules.specs.Meants.{Meant, Meants, no_meants, more_meants, joined_meants, flats, IsPattern, is_any, is_variable, is_built, is_tuple, ArePatterns, none_are, more_are, Columns, no_columns, value_column, other_column, AreColumns, none_in, matched_in, named_in, ignored_in}
 use Rattle.rw_core.specs.Eventually.{Eventually}
 use Rattle.rw_core.proofs.Eventually.{always, mapped, mapped_two}
 use Rattle.rw_meaning.specs.Options.{Whichever}
 use Rattle.rw_meaning.proofs.Tried.{whichever_map, whichever_on}
 use Rattle.rw_meaning.specs.Steps.{Gives, Stands, FieldsStand, AllStand}
 use Rattle.inline_ho_laws.proofs.Stands.{MeantBy, AllMeant, meant_more, all_more, all_joined, flats_meant}
+use Rattle.rw_meaning.specs.Systems.{binding_of}
 
 built_goes : (bound : Option Binding) (x : Option Outcome) (tag place declared : ℕ) (ts : Thunks) (k : Thunks → Tried Thunks) → bound ≡ Some (Constructs declared place) → nat_eq tag place ≡ true → x ≡ Some (datum tag ts)
     → and_try (tried x) (λ r. and_try (fields_if bound r) k) ≡ k ts
@@ -101,13 +102,13 @@ module _ (program : List (Declaration Bound)) where
       }))
 
   mutual
-    pub pattern_is_matched : {p : Pattern Bound} {q : FlatPattern} {n : ℕ} → IsPattern p q n → (t : Thunk) (v : Val) → Stands program t v → Whichever (matched q v) (Passes (matching p t)) (Takes n (matching p t))
+    pub pattern_is_matched : {p : Pattern Bound} {q : FlatPattern} {n : ℕ} → IsPattern binding_of p q n → (t : Thunk) (v : Val) → Stands program t v → Whichever (matched q v) (Passes (matching p t)) (Takes n (matching p t))
     pattern_is_matched is_any t v h = record { them = nothing; had = always (λ b. refl); stand = tt; many = refl }
     pattern_is_matched is_variable t v h = record { them = and_then t nothing; had = always (λ b. refl); stand = (h, tt); many = refl }
     pattern_is_matched (is_built {a = a} {c = c} {parts = parts} {pats = pats} {n = n} {declared = declared} {place = place} e ps) t (val tag fields) h = built_by a c parts pats n declared place e t tag fields h.0 h.1 (parts_are_matched ps h.0 fields h.2) (nat_eq tag place) refl
     pattern_is_matched (is_tuple {a = a} {parts = parts} {pats = pats} {n = n} ps) t (val tag fields) h = tuple_by a parts pats n t tag fields h.0 h.1 (parts_are_matched ps h.0 fields h.2)
 
-    pub parts_are_matched : {ps : Patterns Bound} {qs : FlatPatterns} {n : ℕ} → ArePatterns ps qs n → (ts : Thunks) (fields : Vals) → FieldsStand program ts fields
+    pub parts_are_matched : {ps : Patterns Bound} {qs : FlatPatterns} {n : ℕ} → ArePatterns binding_of ps qs n → (ts : Thunks) (fields : Vals) → FieldsStand program ts fields
         → Whichever (parts_matched qs fields) (Passes (matching_parts ps ts)) (Takes n (matching_parts ps ts))
     parts_are_matched none_are nothing none h = record { them = nothing; had = always (λ b. refl); stand = tt; many = refl }
     parts_are_matched none_are nothing (more v vs) h = absurd h
@@ -118,15 +119,15 @@ module _ (program : List (Declaration Bound)) where
     parts_are_matched (more_are p ps e) (and_then t ts) none h = absurd h
     parts_are_matched (more_are {n = n} {m = m} {k = k} p ps e) (and_then t ts) (more v vs) h = both_by n m k _ _ _ _ e (pattern_is_matched p t v h.0) (parts_are_matched ps ts vs h.1)
 
-  -- == Columns ==
+  -- == (Columns Bound) ==
 
-  abbrev pub ColumnsMeant : List Val → Columns → Thunks → List Val → Type 0
+  abbrev pub ColumnsMeant : List Val → Columns Bound → Thunks → List Val → Type 0
   ColumnsMeant env no_columns nothing [] = Unit {0}
   ColumnsMeant env (value_column cols) (and_then t ts) (v ∷ vs) = Stands program t v × ColumnsMeant env cols ts vs
   ColumnsMeant env (other_column m cols) (and_then t ts) vs = MeantBy program env m t × ColumnsMeant env cols ts vs
   ColumnsMeant env _ _ _ = ⊥
 
-  columns_more : (env others : List Val) (cols : Columns) (ts : Thunks) (vs : List Val) → ColumnsMeant env cols ts vs → ColumnsMeant (env ++ others) cols ts vs
+  columns_more : (env others : List Val) (cols : Columns Bound) (ts : Thunks) (vs : List Val) → ColumnsMeant env cols ts vs → ColumnsMeant (env ++ others) cols ts vs
   columns_more env others no_columns nothing [] h = tt
   columns_more env others no_columns nothing (v ∷ vs) h = absurd h
   columns_more env others no_columns (and_then t ts) vs h = absurd h
@@ -140,7 +141,7 @@ module _ (program : List (Declaration Bound)) where
   matching_row ps ts b = match_row program (result_within program b) ps ts
 
   -- what a row has taken in an environment
-  pub record RowTakes (env : List Val) (d : ℕ) (ms : Meants) (source : ℕ → Tried Thunks) (ws : List Val) : Type 0 where
+  pub record RowTakes (env : List Val) (d : ℕ) (ms : Meants Bound) (source : ℕ → Tried Thunks) (ws : List Val) : Type 0 where
     pub them : Thunks
     pub had : Eventually (λ b. source b ≡ taken them)
     pub stand : AllMeant program (env ++ ws) ms them
@@ -149,7 +150,7 @@ module _ (program : List (Declaration Bound)) where
   row_none : (env : List Val) (d : ℕ) → length env ≡ d → RowTakes env d no_meants (matching_row [] nothing) []
   row_none env d e = record { them = nothing; had = always (λ b. refl); stand = tt; many = rw append-nil e }
 
-  row_more : (env : List Val) (d n e : ℕ) (ms : Meants) (x y : ℕ → Tried Thunks) (ws us : List Val) → length env ≡ d → (w : Takes n x ws) → RowTakes (env ++ ws) e ms y us
+  row_more : (env : List Val) (d n e : ℕ) (ms : Meants Bound) (x y : ℕ → Tried Thunks) (ws us : List Val) → length env ≡ d → (w : Takes n x ws) → RowTakes (env ++ ws) e ms y us
       → RowTakes env e (joined_meants (flats d n) ms) (λ b. and_try (x b) (λ xs. and_try (y b) (λ ys. taken (joined xs ys)))) (ws ++ us)
   row_more env d n e ms x y ws us l w u = record {
     them = joined w.them u.them;
@@ -162,7 +163,7 @@ module _ (program : List (Declaration Bound)) where
     many = let h : length ((env ++ ws) ++ us) ≡ e = u.many in rw append_assoc at h;
   }
 
-  row_named : (env : List Val) (m : Meant) (t : Thunk) (e : ℕ) (ms : Meants) (y : ℕ → Tried Thunks) (us : List Val) → MeantBy program env m t → RowTakes env e ms y us
+  row_named : (env : List Val) (m : Meant Bound) (t : Thunk) (e : ℕ) (ms : Meants Bound) (y : ℕ → Tried Thunks) (us : List Val) → MeantBy program env m t → RowTakes env e ms y us
       → RowTakes env e (more_meants m ms) (λ b. and_try (taken (and_then t nothing)) (λ xs. and_try (y b) (λ ys. taken (joined xs ys)))) us
   row_named env m t e ms y us h u = record {
     them = and_then t u.them;
@@ -171,11 +172,11 @@ module _ (program : List (Declaration Bound)) where
     many = u.many;
   }
 
-  row_ignored : (env : List Val) (e : ℕ) (ms : Meants) (y : ℕ → Tried Thunks) (us : List Val) → RowTakes env e ms y us
+  row_ignored : (env : List Val) (e : ℕ) (ms : Meants Bound) (y : ℕ → Tried Thunks) (us : List Val) → RowTakes env e ms y us
       → RowTakes env e ms (λ b. and_try (taken nothing) (λ xs. and_try (y b) (λ ys. taken (joined xs ys)))) us
   row_ignored env e ms y us u = record { them = u.them; had = mapped (λ b. two_taken _ _ nothing _ refl) u.had; stand = u.stand; many = u.many }
 
-  pub row_is_matched : {d e : ℕ} {cols : Columns} {ps : List (Pattern Bound)} {qs : FlatPatterns} {ms : Meants} → AreColumns d cols ps qs ms e → (env : List Val) (ts : Thunks) (vs : List Val) → length env ≡ d
+  pub row_is_matched : {d e : ℕ} {cols : Columns Bound} {ps : List (Pattern Bound)} {qs : FlatPatterns} {ms : Meants Bound} → AreColumns binding_of d cols ps qs ms e → (env : List Val) (ts : Thunks) (vs : List Val) → length env ≡ d
       → ColumnsMeant env cols ts vs → Whichever (row_matched qs vs) (Passes (matching_row ps ts)) (RowTakes env e ms (matching_row ps ts))
   row_is_matched none_in env nothing [] l h = row_none env _ l
   row_is_matched none_in env nothing (v ∷ vs) l h = absurd h

@@ -21,7 +21,8 @@ use Rattle.rw_meaning.specs.Outputs.{Denotes}
 use Rattle.rw_core_flat.specs.Meaning.{Mode, valued, tracing, Answer, a_value, done, traced as a_trace, as_value, as_trace, meaning, bound}
 use Rattle.rw_core_flat.specs.Terms.{let_term}
 use Rattle.rw_core_flat.specs.Programs.{FlatFunction, function_at, call_within, read_by, FlatDenotes}
-use Rattle.inline_ho_rules.specs.Flattening.{Meants, no_meants, more_meants, flats, first_meants, later_meants, declared_clauses, IsWhole}
+use Rattle.inline_ho_rules.specs.Meants.{Meants, no_meants, more_meants, flats, first_meants, later_meants, declared_clauses}
+use Rattle.inline_ho_rules.specs.Flattening.{IsWhole}
 use Rattle.inline_ho_rules.specs.FlatPrograms.{IsOf, AreFlattened, IsPart, IsFlatProgram}
 use Rattle.inline_ho_laws.proofs.Stands.{EndStands, ReachesAnswer, AllMeant, flats_meant}
 use Rattle.inline_ho_laws.proofs.Heads.{Declares, ClausesGive, reach_on, value_stands, unplaced_meant, clauses_declare, clauses_reached, kept_given}
@@ -32,14 +33,14 @@ nat_eq_same : (a b : ℕ) → nat_eq a b ≡ true → a ≡ b
 nat_eq_same a b e = grind (arith, nat_tests)
 
 module _ (program : List (Declaration Bound)) where
-  first_meant : (env : List Val) (n : ℕ) (ms : Meants) (ts : Thunks) → AllMeant program env ms ts → AllMeant program env (first_meants n ms) (first_thunks n ts)
+  first_meant : (env : List Val) (n : ℕ) (ms : Meants Bound) (ts : Thunks) → AllMeant program env ms ts → AllMeant program env (first_meants n ms) (first_thunks n ts)
   first_meant env zero ms ts h = tt
   first_meant env (suc n) no_meants nothing h = tt
   first_meant env (suc n) no_meants (and_then t ts) h = absurd h
   first_meant env (suc n) (more_meants m ms) nothing h = absurd h
   first_meant env (suc n) (more_meants m ms) (and_then t ts) h = (h.0, first_meant env n ms ts h.1)
 
-  later_meant : (env : List Val) (n : ℕ) (ms : Meants) (ts : Thunks) → AllMeant program env ms ts → AllMeant program env (later_meants n ms) (later_thunks n ts)
+  later_meant : (env : List Val) (n : ℕ) (ms : Meants Bound) (ts : Thunks) → AllMeant program env ms ts → AllMeant program env (later_meants n ms) (later_thunks n ts)
   later_meant env zero ms ts h = h
   later_meant env (suc n) no_meants nothing h = tt
   later_meant env (suc n) no_meants (and_then t ts) h = absurd h

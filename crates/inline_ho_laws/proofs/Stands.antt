@@ -9,7 +9,7 @@ use Rattle.rw_meaning.specs.Evaluation.{Task, evaluate, force, apply, result_wit
 use Rattle.rw_core.specs.Traces.{End, waits, finished, Trace}
 use Rattle.rw_meaning.specs.Trace.{acted, traced, act_within, trace_within}
 use Rattle.rw_core_flat.specs.Meaning.{Mode, valued, acting, tracing, Answer, a_value, done, traced as a_trace, value_at}
-use Rattle.inline_ho_rules.specs.Flattening.{Meant, flat, suspended, local_use, unplaced, Meants, no_meants, more_meants, meant_at, joined_meants, flats}
+use Rattle.inline_ho_rules.specs.Meants.{Meant, flat, suspended, local_use, unplaced, Meants, no_meants, more_meants, meant_at, joined_meants, flats}
 use Rattle.rw_core.specs.Eventually.{Eventually}
 use Rattle.rw_meaning.specs.Steps.{Gives, Stands, FieldsStand, AllStand, EachStands}
 
@@ -52,13 +52,13 @@ module _ (program : List (Declaration Bound)) where
 
   module _ (env : List Val) where
     abbrev mutual
-      pub MeantBy : Meant → Thunk → Type 0
+      pub MeantBy : Meant Bound → Thunk → Type 0
       MeantBy (flat k) t = (v : Val) × (value_at k env ≡ Some v) × Stands program t v
       MeantBy (suspended E e) t = (ρ : Thunks) × ((n : ℕ) → result_within program (suc n) (force t) ≡ result_within program n (evaluate ρ e)) × AllMeant E ρ
       MeantBy (local_use E cs) t = (ρ : Thunks) × ((n : ℕ) → result_within program (suc n) (force t) ≡ clauses_there program (result_within program n) ρ cs) × AllMeant E ρ
       MeantBy unplaced t = Unit {0}
 
-      pub AllMeant : Meants → Thunks → Type 0
+      pub AllMeant : Meants Bound → Thunks → Type 0
       AllMeant no_meants nothing = Unit {0}
       AllMeant (more_meants m ms) (and_then t ts) = MeantBy m t × AllMeant ms ts
       AllMeant _ _ = ⊥
@@ -72,26 +72,26 @@ module _ (program : List (Declaration Bound)) where
 
   module _ (env others : List Val) where
     mutual
-      pub meant_more : (m : Meant) (t : Thunk) → MeantBy env m t → MeantBy (env ++ others) m t
+      pub meant_more : (m : Meant Bound) (t : Thunk) → MeantBy env m t → MeantBy (env ++ others) m t
       meant_more (flat k) t h = (h.0, value_more k env others h.0 h.1, h.2)
       meant_more (suspended E e) t h = (h.0, h.1, all_more E h.0 h.2)
       meant_more (local_use E cs) t h = (h.0, h.1, all_more E h.0 h.2)
       meant_more unplaced t h = tt
 
-      pub all_more : (ms : Meants) (ts : Thunks) → AllMeant env ms ts → AllMeant (env ++ others) ms ts
+      pub all_more : (ms : Meants Bound) (ts : Thunks) → AllMeant env ms ts → AllMeant (env ++ others) ms ts
       all_more no_meants nothing h = tt
       all_more no_meants (and_then t ts) h = absurd h
       all_more (more_meants m ms) nothing h = absurd h
       all_more (more_meants m ms) (and_then t ts) h = (meant_more m t h.0, all_more ms ts h.1)
 
-  pub all_joined : (env : List Val) (ms ns : Meants) (ts us : Thunks) → AllMeant env ms ts → AllMeant env ns us → AllMeant env (joined_meants ms ns) (joined ts us)
+  pub all_joined : (env : List Val) (ms ns : Meants Bound) (ts us : Thunks) → AllMeant env ms ts → AllMeant env ns us → AllMeant env (joined_meants ms ns) (joined ts us)
   all_joined env no_meants ns nothing us h k = k
   all_joined env no_meants ns (and_then t ts) us h k = absurd h
   all_joined env (more_meants m ms) ns nothing us h k = absurd h
   all_joined env (more_meants m ms) ns (and_then t ts) us h k = (h.0, all_joined env ms ns ts us h.1 k)
 
   -- what a name stands for
-  pub looked_up : (env : List Val) (k : ℕ) (E : Meants) (ρ : Thunks) (m : Meant) → AllMeant env E ρ → meant_at k E ≡ Some m → (t : Thunk) × (thunk_at k ρ ≡ Some t) × MeantBy env m t
+  pub looked_up : (env : List Val) (k : ℕ) (E : Meants Bound) (ρ : Thunks) (m : Meant Bound) → AllMeant env E ρ → meant_at k E ≡ Some m → (t : Thunk) × (thunk_at k ρ ≡ Some t) × MeantBy env m t
   looked_up env k no_meants ρ m h e = absurd (cc)
   looked_up env k (more_meants n ns) nothing m h e = absurd h
   looked_up env zero (more_meants n ns) (and_then t ts) m h e = let k : n ≡ m = cc in (t, refl, subst (λ x. MeantBy env x t) k h.0)

@@ -10,7 +10,8 @@ use Rattle.rw_meaning.specs.Evaluation.{declaration_at}
 use Rattle.rw_meaning.specs.Systems.{binding_of, Body, system_of, start_of}
 use Rattle.rw_core_flat.specs.Terms.{FlatTerm, let_term, FlatLets}
 use Rattle.rw_core_flat.specs.Programs.{FlatFunction, function_at}
-use Rattle.inline_ho_rules.specs.Flattening.{Meants, no_meants, flats, all_unplaced, declared_clauses, IsFlat, IsPlaced, IsWhole}
+use Rattle.inline_ho_rules.specs.Meants.{Meants, no_meants, flats, all_unplaced, declared_clauses}
+use Rattle.inline_ho_rules.specs.Flattening.{IsFlat, IsPlaced, IsWhole}
 
 -- what the flat functions are of, in their order: a declaration, by its number, or none where it is a part of `start`
 abbrev pub IsOf : List (Option ℕ) → ℕ → ℕ → Type 0
@@ -28,7 +29,7 @@ module _ (program : List (Declaration Bound)) (origins : List (Option ℕ)) (fun
     pub found : function_at i functions ≡ Some function
     pub counted : length function.params ≡ parameters
     pub next : ℕ
-    pub inside : Meants
+    pub inside : Meants Bound
     pub lets : FlatLets
     pub term : FlatTerm
     pub body : function.body ≡ let_term lets term

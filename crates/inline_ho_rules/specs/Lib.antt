@@ -1,3 +1,4 @@
 -- The words that public contracts rest on.
+pub mod Meants
 pub mod Flattening
 pub mod FlatPrograms
