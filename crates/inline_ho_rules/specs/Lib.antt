@@ -2,3 +2,5 @@
 pub mod Meants
 pub mod Flattening
 pub mod FlatPrograms
+pub mod Orders
+pub mod TypedFlattening
