@@ -16,10 +16,11 @@ use Rattle.rw_meaning.specs.Results.{Outcome, action, kept_call, Thunk, kept, ke
 use Rattle.rw_meaning.specs.Evaluation.{evaluate, force, result_within, kept_parts, kept_names, inside_names, patterns_before, match_row}
 use Rattle.rw_core_flat.specs.Terms.{FlatPattern, bound_pattern, no_patterns as no_flat_patterns}
 use Rattle.rw_core_flat.specs.Terms.{FlatTerm, local_term, built_term, case_term, let_term, call_term, FlatTerms, no_terms, more_terms}
-use Rattle.rw_core_flat.specs.Terms.{FlatLets, no_lets, more_lets, FlatRows, no_rows, more_rows, FlatArms}
+use Rattle.rw_core_flat.specs.Terms.{FlatLets, no_lets, more_lets, FlatRows, no_rows, more_rows, FlatArms, body_arm, no_arms, more_arms}
 use Rattle.rw_core_flat.specs.Meaning.{Mode, valued, acting, tracing, Answer, a_value, as_value, got, value_at, matched, row_matched, meaning, values, bound, rows_meaning, arms_meaning}
 use Rattle.inline_ho_rules.specs.Meants.{Meant, flat, suspended, local_use, Meants, no_meants, more_meants, meant_at, joined_meants, suspended_parts, flats}
 use Rattle.inline_ho_rules.specs.Meants.{IsPattern, Columns, no_columns, value_column, other_column, AreMatched, none_matched, flat_matched, other_matched, AreVariables, none_variable, more_variable}
+use Rattle.inline_ho_rules.specs.Flattening.{side_term}
 use Rattle.inline_ho_rules.specs.Flattening.{IsFlat, is_local, is_argument, is_used, is_called, is_inlined, is_constructor, is_application, is_tuple_of, is_lambda, is_let, is_case, is_if, is_last, is_run, is_bound, is_let_then, if_rows, is_return, is_signal, is_put, is_get, is_lift, is_bind, is_then, is_extrude}
 use Rattle.inline_ho_rules.specs.Flattening.{IsDatum, suspended_datum, flat_datum, AreData, no_data, more_data, IsLambda, lambda_body, lambda_named, lambda_matched, IsInlined, is_group, AreParams, no_params, data_param, function_param}
 use Rattle.inline_ho_rules.specs.Flattening.{IsBody, plain_body, rows_body, AreRows, none_rows, some_rows, AreArms, one_arm, guarded_arms, AreGuarded, none_guarded, some_guarded, IsPlaced, all_placed, data_placed, use_placed, pattern_placed}
@@ -35,6 +36,14 @@ use Rattle.inline_ho_laws.proofs.Heads.{local_given, forced_given, Declares, Cla
 use Rattle.inline_ho_laws.proofs.Heads.{clauses_reached, LambdaReaches, lambda_reached, case_given, let_given, kept_given, name_given, name_like, rows_there, placed_first, unplaced_meant, side_given, all_placed_meant, pattern_names_meant}
 use Rattle.inline_ho_laws.proofs.Heads.{Passes, Taken, the_rows, the_side, the_guards, only_row, then_given, else_given, last_given, let_then_given, action_reached, run_given, bind_given, rest_of, rest_reached, lambda_ends, lambda_steps, row_passes, row_takes, row_not_matched, reach_taken, rows_reached, rows_given, plain_taken, guard_reached}
 use Rattle.rw_meaning.specs.Systems.{binding_of}
+
+tried_alone : {A B : Type 0} (x : Option A) (f : A → Option B) → (x >>= f) ≡ what_is_taken (or_try (and_try (tried x) (λ a. tried (f a))) passed_over)
+tried_alone None f = refl
+tried_alone (Some a) f = taken_alone (f a)
+  where
+    taken_alone : {B : Type 0} (y : Option B) → y ≡ what_is_taken (or_try (tried y) passed_over)
+    taken_alone None = refl
+    taken_alone (Some b) = refl
 
 module _ (program : List (Declaration Bound)) (IsFunction : ℕ → ℕ → Type 0) (calls : Mode → ℕ → List Val → Option Answer) where
   -- what is reached from an expression
@@ -243,6 +252,14 @@ module _ (program : List (Declaration Bound)) (IsFunction : ℕ → ℕ → Type
       parts (val tag fields) w = (tag, fields, refl, w.0, w.1, w.2)
 
   -- the right side of a pattern binding
+  -- a right side by itself means the same as a case on nothing with its row alone
+  side_same : (lets : FlatLets) (arms : FlatArms) (env : List Val) → meaning calls (side_term lets arms) valued env ≡ meaning calls (case_term no_terms (more_rows no_flat_patterns lets arms no_rows)) valued env
+  side_same lets (body_arm t) env =
+      tried_alone (bound calls lets env) (λ inner. meaning calls t valued inner)
+      ∙ ap (λ z. what_is_taken (or_try (and_try (tried (bound calls lets z)) (λ inner. tried (meaning calls t valued inner))) passed_over)) (sym (append-nil env))
+  side_same lets no_arms env = refl
+  side_same lets (more_arms g t others) env = refl
+
   side_case : (ρ : Thunks) (body : RightSide Bound) (wheres : LocalBindings Bound) (lets : FlatLets) (arms : FlatArms) (env : List Val) (d : ℕ) (ns : Meants Bound) (names : Thunks) → IfSome (bound calls lets (env ++ [])) (Grown (env ++ []) d ns names)
       → ((inner : List Val) → Grown (env ++ []) d ns names inner → Whichever (arms_meaning calls arms valued inner) (Passes program (the_side program (inside_names ρ wheres) body)) (ReachesAnswer program (Taken program (the_side program (inside_names ρ wheres) body)) nothing valued))
       → IfSome (meaning calls (case_term no_terms (more_rows no_flat_patterns lets arms no_rows)) valued env >>= as_value) (Stands program (kept_side ρ body wheres))
@@ -495,16 +512,17 @@ module _ (program : List (Declaration Bound)) (IsFunction : ℕ → ℕ → Type
       placed_law (use_placed k {E = E} {ms = ms} {group = group} {cs = cs} e g) env ρ l h i =
           placed_law g env ρ l h (placed_first program env (local_use (joined_meants E ms) cs) ρ group k ms (length (group_variables group)) i
           (inside_names ρ group, name_like program ρ group k cs e, all_joined program env E ms ρ (kept_names ρ group 0 (length (group_variables group))) h i))
-      placed_law (pattern_placed k n {d = d} {d' = d'} {d'' = d''} {E = E} {ms = ms} {ns = ns} {inner = inners} {group = group} {wheres = wheres} {p = p} {body = body} {q = q} {arms = arms} {lets = lets} {others = others} s e i f g m) env ρ l h j =
+      placed_law (pattern_placed k n {d = d} {d' = d'} {d'' = d''} {E = E} {ms = ms} {ns = ns} {inner = inners} {group = group} {wheres = wheres} {p = p} {body = body} {q = q} {arms = arms} {lets = lets} {others = others} {t = t} s e i f g term m) env ρ l h j =
           let o : length (env ++ []) ≡ d = ap length (append-nil env) ∙ l in
           let w : AllMeant program env (joined_meants E ms) (inside_names ρ group) = all_joined program env E ms ρ (kept_names ρ group 0 (length (group_variables group))) h j in
           let w' : AllMeant program (env ++ []) (joined_meants E ms) (inside_names ρ group) = all_more program env [] (joined_meants E ms) (inside_names ρ group) w in
-          matched_case q (case_term no_terms (more_rows no_flat_patterns lets arms no_rows)) others n p env (kept_side (inside_names ρ group) body wheres) _ i
-          (side_case (inside_names ρ group) body wheres lets arms env d' inners (kept_names (inside_names ρ group) wheres 0 (length (group_variables wheres)))
+          let same : meaning calls t valued env ≡ meaning calls (case_term no_terms (more_rows no_flat_patterns lets arms no_rows)) valued env = ap (λ z. meaning calls z valued env) term ∙ side_same lets arms env in
+          matched_case q t others n p env (kept_side (inside_names ρ group) body wheres) _ i
+          (subst (λ z. IfSome (z >>= as_value) (Stands program (kept_side (inside_names ρ group) body wheres))) (sym same) (side_case (inside_names ρ group) body wheres lets arms env d' inners (kept_names (inside_names ρ group) wheres 0 (length (group_variables wheres)))
           (placed_law f (env ++ []) (inside_names ρ group) o w' (unplaced_meant program (env ++ []) (inside_names ρ group) wheres 0 (length (group_variables wheres))))
           (λ inner u. arms_law g inner (inside_names (inside_names ρ group) wheres) nothing valued u.long
           (all_joined program inner (joined_meants E ms) inners (inside_names ρ group) (kept_names (inside_names ρ group) wheres 0 (length (group_variables wheres)))
-          (kept_meant (env ++ []) u.others inner (joined_meants E ms) (inside_names ρ group) u.grown w') u.meant) tt))
+          (kept_meant (env ++ []) u.others inner (joined_meants E ms) (inside_names ρ group) u.grown w') u.meant) tt)))
           (λ ws z. if_map _ _ (bound calls others (env ++ ws)) (λ inner u. grown_by env ws d'' ns _ inner u)
           (placed_law m (env ++ ws) ρ (long_by env ws d n l z.many) (all_more program env ws E ρ h)
           (all_placed_meant program (env ++ ws) ρ group (length (group_variables group)) n k d ms (pattern_names_meant program s ρ n d e env ws z.them l z.many z.stand z.had) (all_more program env ws ms _ j))))

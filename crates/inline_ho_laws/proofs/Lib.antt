@@ -6,3 +6,4 @@ pub mod Heads
 pub mod Devices
 pub mod Denoted
 pub mod Outputs
+pub mod Once

@@ -26,6 +26,13 @@ use Rattle.inline_ho_rules.specs.Meants.{Meant, flat, suspended, local_use, unpl
 abbrev pub if_rows : FlatTerm → FlatTerm → FlatRows
 if_rows t u = more_rows (more_flat_patterns (built_pattern 1 no_flat_patterns) no_flat_patterns) no_lets (body_arm t) (more_rows (more_flat_patterns (built_pattern 0 no_flat_patterns) no_flat_patterns) no_lets (body_arm u) no_rows)
 
+-- == Right sides ==
+
+-- the term of a right side that stands by itself, inside the bindings of its `where`: without guards it is its body
+abbrev pub side_term : FlatLets → FlatArms → FlatTerm
+side_term lets (body_arm t) = let_term lets t
+side_term lets arms = case_term no_terms (more_rows no_flat_patterns lets arms no_rows)
+
 -- == Terms ==
 
 -- over a program, and which flat function stands for which declaration
@@ -144,10 +151,10 @@ module _ (program : List (Declaration Bound)) (IsFunction : ℕ → ℕ → Type
           → IsPlaced group (suc d) E (placed k (flat d) ms) lets d' ns → IsPlaced group d E ms (more_lets bound_pattern t lets) d' ns
       use_placed : (k : ℕ) {d d' : ℕ} {E ms ns : Meants Bound} {group : LocalBindings Bound} {cs : Alternatives Bound} {lets : FlatLets}
           → clauses_at group k ≡ Some cs → IsPlaced group d E (placed k (local_use (joined_meants E ms) cs) ms) lets d' ns → IsPlaced group d E ms lets d' ns
-      pattern_placed : (k n : ℕ) {d d' d'' : ℕ} {E ms ns inner : Meants Bound} {group wheres : LocalBindings Bound} {a b : Bound} {p : Pattern Bound} {body : RightSide Bound} {q : FlatPattern} {arms : FlatArms} {lets others : FlatLets}
+      pattern_placed : (k n : ℕ) {d d' d'' : ℕ} {E ms ns inner : Meants Bound} {group wheres : LocalBindings Bound} {a b : Bound} {p : Pattern Bound} {body : RightSide Bound} {q : FlatPattern} {arms : FlatArms} {lets others : FlatLets} {t : FlatTerm}
           → StandsIn group k (local_pattern a (alternative b (p ∷ []) body wheres)) → n ≡ length (binding_variables (local_pattern a (alternative b (p ∷ []) body wheres))) → IsPattern binding_of p q n
-          → IsPlaced wheres d (joined_meants E ms) (all_unplaced (length (group_variables wheres))) lets d' inner → AreArms d' (joined_meants (joined_meants E ms) inner) body no_meants arms
-          → IsPlaced group (n + d) E (placed_all k (flats d n) ms) others d'' ns → IsPlaced group d E ms (more_lets q (case_term no_terms (more_rows no_flat_patterns lets arms no_rows)) others) d'' ns
+          → IsPlaced wheres d (joined_meants E ms) (all_unplaced (length (group_variables wheres))) lets d' inner → AreArms d' (joined_meants (joined_meants E ms) inner) body no_meants arms → t ≡ side_term lets arms
+          → IsPlaced group (n + d) E (placed_all k (flats d n) ms) others d'' ns → IsPlaced group d E ms (more_lets q t others) d'' ns
 
   -- a flat function for clauses: its parameters are the first flat variables; those without a pattern are further arguments
   pub record IsWhole (cs : Alternatives Bound) (f : FlatFunction) : Type 0 where

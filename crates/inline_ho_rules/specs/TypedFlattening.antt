@@ -21,7 +21,7 @@ use Rattle.rw_core_flat.specs.Terms.{FlatPattern, bound_pattern, built_pattern, 
 use Rattle.rw_core_flat.specs.Terms.{FlatTerm, local_term, built_term, case_term, let_term, call_term, mark_term, return_term, get_term, put_term, lift_term, bind_term, signal_term, extrude_term, FlatTerms, no_terms, more_terms}
 use Rattle.rw_core_flat.specs.Terms.{FlatLets, no_lets, more_lets, FlatRows, no_rows, more_rows, FlatArms, body_arm, no_arms, more_arms}
 use Rattle.inline_ho_rules.specs.Meants.{Meant, flat, suspended, local_use, unplaced, Meants, no_meants, more_meants, meant_at, joined_meants, meant_count, placed, placed_all, all_unplaced, suspended_parts, flats, IsPattern, Columns, no_columns, value_column, other_column, AreColumns, AreMatched, AreVariables}
-use Rattle.inline_ho_rules.specs.Flattening.{if_rows}
+use Rattle.inline_ho_rules.specs.Flattening.{if_rows, side_term}
 use Rattle.inline_ho_rules.specs.Orders.{is_data, is_low, parameters_of, result_of}
 
 -- == What types and forms decide ==
@@ -192,14 +192,14 @@ module _ (program : List (Declaration Bound)) (function_of : ℕ → List Ty →
     pub data IsPlaced : LocalBindings TypedNode → List (Numbered TypedNode) → ℕ → Meants TypedNode → Meants TypedNode → FlatLets → ℕ → Meants TypedNode → Type 0 where
       all_placed : {group : LocalBindings TypedNode} {d : ℕ} {E ms : Meants TypedNode} → IsPlaced group [] d E ms no_lets d ms
       signature_placed : {n d d' : ℕ} {E ms ns : Meants TypedNode} {a : TypedNode} {x : List ℕ} {type : WrittenType} {group : LocalBindings TypedNode} {order : List (Numbered TypedNode)} {lets : FlatLets}
-          → IsPlaced group order d E ms lets d' ns → IsPlaced group ((n, (local_signature a x type)) ∷ order) d E ms lets d' ns
+          → IsPlaced group order d E ms lets d' ns → IsPlaced group ((n, local_signature a x type) ∷ order) d E ms lets d' ns
       data_placed : {n d d' : ℕ} {E ms ns : Meants TypedNode} {a : TypedNode} {x : List ℕ} {cs : Alternatives TypedNode} {group : LocalBindings TypedNode} {order : List (Numbered TypedNode)} {t : FlatTerm} {lets : FlatLets}
           → is_data a.type ≡ true → patterns_before cs ≡ 0 → IsBody d (joined_meants E ms) cs no_meants no_meants t
-          → IsPlaced group order (suc d) E (placed (first_name (bindings_of group) n) (flat d) ms) lets d' ns → IsPlaced group ((n, (local_function a x cs)) ∷ order) d E ms (more_lets bound_pattern t lets) d' ns
+          → IsPlaced group order (suc d) E (placed (first_name (bindings_of group) n) (flat d) ms) lets d' ns → IsPlaced group ((n, local_function a x cs) ∷ order) d E ms (more_lets bound_pattern t lets) d' ns
       use_placed : {n d d' : ℕ} {E ms ns : Meants TypedNode} {a : TypedNode} {x : List ℕ} {cs : Alternatives TypedNode} {group : LocalBindings TypedNode} {order : List (Numbered TypedNode)} {lets : FlatLets}
-          → is_data a.type ≡ false → IsPlaced group order d E (placed (first_name (bindings_of group) n) (local_use (joined_meants E ms) cs) ms) lets d' ns → IsPlaced group ((n, (local_function a x cs)) ∷ order) d E ms lets d' ns
-      pattern_placed : {n m d d' d'' : ℕ} {E ms ns inner : Meants TypedNode} {a b : TypedNode} {p : Pattern TypedNode} {body : RightSide TypedNode} {wheres : LocalBindings TypedNode} {group : LocalBindings TypedNode} {order : List (Numbered TypedNode)} {q : FlatPattern} {arms : FlatArms} {lets others : FlatLets}
+          → is_data a.type ≡ false → IsPlaced group order d E (placed (first_name (bindings_of group) n) (local_use (joined_meants E ms) cs) ms) lets d' ns → IsPlaced group ((n, local_function a x cs) ∷ order) d E ms lets d' ns
+      pattern_placed : {n m d d' d'' : ℕ} {E ms ns inner : Meants TypedNode} {a b : TypedNode} {p : Pattern TypedNode} {body : RightSide TypedNode} {wheres : LocalBindings TypedNode} {group : LocalBindings TypedNode} {order : List (Numbered TypedNode)} {q : FlatPattern} {arms : FlatArms} {lets others : FlatLets} {t : FlatTerm}
           → IsPattern typed_binding p q m
-          → IsPlaced wheres (order_of wheres) d (joined_meants E ms) (unplaced_names wheres) lets d' inner → AreArms d' (joined_meants (joined_meants E ms) inner) body no_meants arms
+          → IsPlaced wheres (order_of wheres) d (joined_meants E ms) (unplaced_names wheres) lets d' inner → AreArms d' (joined_meants (joined_meants E ms) inner) body no_meants arms → t ≡ side_term lets arms
           → IsPlaced group order (m + d) E (placed_all (first_name (bindings_of group) n) (flats d m) ms) others d'' ns
-          → IsPlaced group ((n, (local_pattern a (alternative b (p ∷ []) body wheres))) ∷ order) d E ms (more_lets q (case_term no_terms (more_rows no_flat_patterns lets arms no_rows)) others) d'' ns
+          → IsPlaced group ((n, (local_pattern a (alternative b (p ∷ []) body wheres))) ∷ order) d E ms (more_lets q t others) d'' ns
