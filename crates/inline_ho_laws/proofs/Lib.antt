@@ -7,3 +7,6 @@ pub mod Devices
 pub mod Denoted
 pub mod Outputs
 pub mod Once
+pub mod Orders
+pub mod Bare
+pub mod Forget

@@ -4,3 +4,4 @@ pub mod Flattening
 pub mod FlatPrograms
 pub mod Orders
 pub mod TypedFlattening
+pub mod Untyped
