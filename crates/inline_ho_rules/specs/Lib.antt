@@ -5,3 +5,4 @@ pub mod FlatPrograms
 pub mod Orders
 pub mod TypedFlattening
 pub mod Untyped
+pub mod TypedPrograms

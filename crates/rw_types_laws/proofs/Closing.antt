@@ -12,7 +12,7 @@ use Rattle.rw_types_rules.specs.Schemes.{Scheme, scheme_type, World, bool_type, 
 use Rattle.rw_types_rules.specs.TypedTrees.{TypedNode}
 use Rattle.rw_types_rules.specs.WellTyped.{given, IsInstance, IsOwnType, DeclarationAgrees}
 use Rattle.rw_types_rules.specs.Typings.{scheme_kinds, own_kinds}
-use Rattle.rw_types_laws.specs.Instances.{is_known, IsKnown, AreKnown, IsClosed, AreClosed, EachIs, known_as, closed_by, closed_parts, in_instance, HasKnownSchemes, InstanceAgrees}
+use Rattle.rw_types_instances.specs.Instances.{is_known, IsKnown, AreKnown, IsClosed, AreClosed, EachIs, known_as, closed_by, closed_parts, in_instance, HasKnownSchemes, InstanceAgrees}
 use Rattle.rw_types_laws.proofs.Parts.{each, IsKeeping}
 use Rattle.rw_types_laws.proofs.Agreeing.{all_clauses_agree}
 use Rattle.rw_types_laws.proofs.Known.{constructor_known, written_known}

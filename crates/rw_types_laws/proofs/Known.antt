@@ -13,7 +13,7 @@ use Rattle.rw_types_solving.specs.Types.{Ty, var, tys}
 use Rattle.rw_types_rules.specs.Words.{variables_from}
 use Rattle.rw_types_rules.specs.Written.{variable_from, variable_applied, identity_applied, state_applied, device_applied, data_applied, constructor_applied, type_applied, types_of, type_of, data_types_from}
 use Rattle.rw_types_rules.specs.Schemes.{Scheme, operation_scheme, signatures_in, scheme_if, declared_scheme, constructor_scheme, constructor_schemes, constructed_from, world_of, scheme_at}
-use Rattle.rw_types_laws.specs.Instances.{IsKnown, AreKnown, EachIs, HasKnownSchemes}
+use Rattle.rw_types_instances.specs.Instances.{IsKnown, AreKnown, EachIs, HasKnownSchemes}
 
 parts_known : (ts : List Ty) → EachIs IsKnown ts → AreKnown (tys ts)
 parts_known [] k = tt

@@ -12,7 +12,7 @@ use Rattle.rw_types_rules.specs.Written.{type_of}
 use Rattle.rw_types_rules.specs.Schemes.{Scheme, scheme_type, World, bool_type, scheme_at}
 use Rattle.rw_types_rules.specs.TypedTrees.{TypedNode}
 use Rattle.rw_types_rules.specs.WellTyped.{given, IsInstance, IsMatched, IsBind, IsThen, IsSigned, NameAgrees}
-use Rattle.rw_types_laws.specs.Instances.{is_known}
+use Rattle.rw_types_instances.specs.Instances.{is_known}
 
 abbrev pub each : (Ty → Ty) → Tys → Tys
 each f none = none

@@ -1,3 +1,2 @@
--- What public contracts rest on: types and typed trees in an instance, and what a substitution keeps.
-pub mod Instances
+-- What public contracts rest on: what a substitution keeps.
 pub mod Substitutions

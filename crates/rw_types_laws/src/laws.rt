@@ -10,7 +10,7 @@ ghost use Rattle.rw_types_rules.specs.Schemes.{World, world_of, scheme_at};
 ghost use Rattle.rw_types_rules.specs.TypedTrees.{TypedNode, substituted};
 ghost use Rattle.rw_types_rules.specs.WellTyped.{DeclarationAgrees};
 ghost use Rattle.rw_types_rules.specs.Typings.{declaration_label, own_kinds, scheme_kinds, IsTyping, IsDefault};
-ghost use Rattle.rw_types_laws.specs.Instances.{IsKnown, IsClosed, EachIs, closed_by, in_instance, HasKnownSchemes, InstanceAgrees};
+ghost use Rattle.rw_types_instances.specs.Instances.{IsKnown, IsClosed, EachIs, closed_by, in_instance, HasKnownSchemes, InstanceAgrees};
 ghost use Rattle.rw_types_laws.specs.Substitutions.{Keeps};
 
 /// Where the types of a declaration agree, they do so under each substitution of their variables.

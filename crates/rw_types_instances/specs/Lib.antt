@@ -1,0 +1,2 @@
+-- What public contracts rest on: types and typed trees in an instance.
+pub mod Instances
