@@ -1,5 +1,5 @@
 -- The flat program of a typed program: exactly one.
-use Rattle.std.specs.Prelude.{◌≡◌, ◌≢◌, ℕ, zero, suc, ◌+◌, List, [], ◌∷◌, ◌++◌, map, length, slice_get, Bool, true, false, not, Option, Some, None, if◌then◌else◌, codes}
+use Rattle.std.specs.Prelude.{◌≡◌, ◌≢◌, ℕ, zero, suc, ◌+◌, List, [], ◌∷◌, ◌++◌, map, length, slice_get, Bool, true, false, nat_eq, Option, Some, None, if◌then◌else◌, codes}
 use Rattle.std.specs.List.{flat_map}
 use Rattle.rw_base.specs.declared.place.Place.{Place}
 use Rattle.rw_scope_rules.specs.declared.binding.Bound.{Bound}
@@ -97,11 +97,7 @@ clauses_in x = do d ← x; declared_clauses d
 
 -- a place of the prelude is that of `start`
 abbrev pub place_or : Place → Place → Place
-place_or start place = if_outside place.line
-  where
-    abbrev pub if_outside : ℕ → Place
-    if_outside zero = start
-    if_outside (suc n) = place
+place_or start place = if nat_eq place.line 0 then start else place
 
 module _ (world : World) (typed : List (Declaration TypedNode)) (instances : List Instance) (table : List Ty) where
   abbrev pub number_of : Ty → Option ℕ
