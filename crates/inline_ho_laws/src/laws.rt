@@ -1,14 +1,33 @@
-// The law of flattening, as the contract of a function that does nothing.
-ghost use Rattle.std.specs.Prelude.{ℕ, List, Option};
+// The laws of flattening: each is the contract of a function that does nothing.
+ghost use Rattle.std.specs.Prelude.{◌≡◌, ℕ, List, Option, Some};
 ghost use Rattle.rw_scope_rules.specs.declared.binding.Bound.{Bound};
+ghost use Rattle.rw_tree.specs.Trees.{Expression, Alternatives};
 ghost use Rattle.rw_tree.specs.Declarations.{Declaration};
 ghost use Rattle.rw_core.specs.Values.{Val};
 ghost use Rattle.rw_core.specs.Systems.{System};
 ghost use Rattle.rw_meaning.specs.Outputs.{Denotes};
+ghost use Rattle.rw_types_solving.specs.Types.{Ty};
+ghost use Rattle.rw_types_rules.specs.TypedTrees.{TypedNode};
+ghost use Rattle.rw_core_flat.specs.Terms.{FlatTerm};
 ghost use Rattle.rw_core_flat.specs.Programs.{FlatFunction, FlatDenotes};
-ghost use Rattle.inline_ho_rules.specs.FlatPrograms.{IsFlatProgram};
+ghost use Rattle.inline_ho_rules.specs.Meants.{Meants};
+ghost use Rattle.inline_ho_rules.specs.Flattening.{IsFlat};
+ghost use Rattle.inline_ho_rules.specs.FlatPrograms.{IsOf, IsFlatProgram};
+ghost use Rattle.inline_ho_rules.specs.TypedFlattening.{IsTypedFlat};
+ghost use Rattle.inline_ho_rules.specs.Untyped.{bare_expression, bare_clauses, bare_meants, clauses_declared};
 
 /// What a flat program for a source denotes, the source denotes.
 pub fn flat_programs_mean_their_source()
     ensures { (program : List (Declaration Bound)) (origins : List (Option ℕ)) (functions : List FlatFunction) (system : System ℕ ℕ) → IsFlatProgram program origins functions system → (inputs outputs : List Val) → FlatDenotes functions system inputs outputs → Denotes program inputs outputs }
+{}
+
+/// With closed types at its nodes, an expression flattens to one term at most.
+pub fn typed_expressions_flatten_once()
+    ensures { (program : List (Declaration Bound)) (function_of : ℕ → List Ty → Option ℕ) (clauses_of : ℕ → List Ty → Option (Alternatives TypedNode)) (number_of : Ty → Option ℕ) (next : ℕ) (names arguments : Meants TypedNode) (e : Expression TypedNode) (first second : FlatTerm) → IsTypedFlat program function_of clauses_of number_of next names e arguments first → IsTypedFlat program function_of clauses_of number_of next names e arguments second → first ≡ second }
+{}
+
+/// And to that term it flattens without its types too, where the flat functions are of the declarations of their instances, and the
+/// clauses of an instance are those of its declaration.
+pub fn typed_flattening_is_flattening()
+    ensures { (program : List (Declaration Bound)) (function_of : ℕ → List Ty → Option ℕ) (clauses_of : ℕ → List Ty → Option (Alternatives TypedNode)) (number_of : Ty → Option ℕ) (origins : List (Option ℕ)) → ((n i : ℕ) (arguments : List Ty) → function_of n arguments ≡ Some i → IsOf origins i n) → ((n : ℕ) (arguments : List Ty) (cs : Alternatives TypedNode) → clauses_of n arguments ≡ Some cs → clauses_declared program n ≡ Some (bare_clauses cs)) → (next : ℕ) (names arguments : Meants TypedNode) (e : Expression TypedNode) (term : FlatTerm) → IsTypedFlat program function_of clauses_of number_of next names e arguments term → IsFlat program (IsOf origins) next (bare_meants names) (bare_expression e) (bare_meants arguments) term }
 {}

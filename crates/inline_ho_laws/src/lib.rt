@@ -1,9 +1,12 @@
-//! What a flat program denotes, its source denotes.
+//! What a flat program for a source denotes, the source denotes; and what an expression flattens to with its types, which is one term
+//! at most, it flattens to without them.
 //!
-//! It leaves which flat programs a source has to `inline_ho_rules`, and that there is something to denote to `rw_guard_laws`. It has a
-//! law, and no code that runs. Begin with `laws.rt`; the induction is in `proofs/Denoted.antt`.
+//! It leaves which flat programs a source has to `inline_ho_rules`, and that there is something to denote to `rw_guard_laws`. It has
+//! laws, and no code that runs. Begin with `laws.rt`; the induction is in `proofs/Denoted.antt`.
 #![tactic(auto)]
 
 mod laws;
 
-pub use laws::flat_programs_mean_their_source;
+pub use laws::{
+    flat_programs_mean_their_source, typed_expressions_flatten_once, typed_flattening_is_flattening,
+};

@@ -2,9 +2,12 @@
 use Rattle.std.specs.Prelude.{ℕ, List, Option}
 use Rattle.rw_scope_rules.specs.declared.binding.Bound.{Bound}
 use Rattle.rw_tree.specs.Trees.{Expression, Alternatives}
+use Rattle.rw_tree.specs.Declarations.{Declaration}
+use Rattle.rw_core.specs.Options.{◌>>=◌}
+use Rattle.rw_meaning.specs.Evaluation.{declaration_at}
 use Rattle.rw_types_rules.specs.TypedTrees.{TypedNode}
 use Rattle.rw_types_rules.specs.Relabelled.{relabelled_expression, relabelled_alternatives}
-use Rattle.inline_ho_rules.specs.Meants.{Meant, flat, suspended, local_use, unplaced, Meants, no_meants, more_meants, Columns, no_columns, value_column, other_column}
+use Rattle.inline_ho_rules.specs.Meants.{Meant, flat, suspended, local_use, unplaced, Meants, no_meants, more_meants, Columns, no_columns, value_column, other_column, declared_clauses}
 
 abbrev pub node_of : TypedNode → Bound
 node_of a = a.node
@@ -30,3 +33,7 @@ abbrev pub bare_columns : Columns TypedNode → Columns Bound
 bare_columns no_columns = no_columns
 bare_columns (value_column cols) = value_column (bare_columns cols)
 bare_columns (other_column m cols) = other_column (bare_meant m) (bare_columns cols)
+
+-- the clauses of the declaration with this number
+abbrev pub clauses_declared : List (Declaration Bound) → ℕ → Option (Alternatives Bound)
+clauses_declared program n = do d ← declaration_at n program; declared_clauses d
