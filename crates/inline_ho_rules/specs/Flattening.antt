@@ -1,24 +1,24 @@
 -- Which flat terms an expression flattens to. A relation over the tree in which names are bound: it says what may be built, and that something may be
 -- built it doesn't say. It looks at no type, so choices that types make are open in it: which arguments are bound by a let, which calls are expanded,
 -- in which order the bindings of a group are made, and which number a data type has.
-use Rattle.std.specs.Prelude.{◌≡◌, ℕ, zero, suc, ◌+◌, ◌-◌, ◌≤◌, nat_le, List, [], ◌∷◌, length, Option, Some, None, if◌then◌else◌}
+use Rattle.std.specs.Prelude.{◌≡◌, ℕ, suc, ◌+◌, ◌≤◌, List, [], ◌∷◌, length, Some}
 use Rattle.rw_scope_rules.specs.declared.binding.Operation.TheVariants.{Return, Bind, Then, Get, Put, Lift, Signal, Extrude}
 use Rattle.rw_scope_rules.specs.declared.binding.Binding.TheVariants.{Declared, Operation as Operates, Constructor as Constructs, Local}
 use Rattle.rw_scope_rules.specs.declared.binding.Bound.{Bound}
 use Rattle.rw_scope_rules.specs.Bindings.{binding_variables, group_variables}
-use Rattle.rw_tree.specs.Patterns.{Pattern, wildcard, variable_pattern, constructor_pattern, tuple_pattern, Patterns, no_patterns, more_patterns}
-use Rattle.rw_tree.specs.Trees.{Expression, variable, constructor, application, tuple, lambda, let_in, if_then_else, case_of, do_block, Expressions, no_expressions, more_expressions}
-use Rattle.rw_tree.specs.Trees.{alternative, Alternatives, no_alternatives, more_alternatives, alternative_parts, RightSide, plain_side, guarded_side, guarded_body, GuardedBodies, no_bodies, more_bodies}
-use Rattle.rw_tree.specs.Trees.{Statement, LocalBinding, local_signature, local_function, local_pattern, LocalBindings, no_bindings, more_bindings, bind_statement, let_statement, run_statement, Statements, no_statements, more_statements}
-use Rattle.rw_tree.specs.Declarations.{Declaration, function_declaration}
+use Rattle.rw_tree.specs.Patterns.{Pattern, variable_pattern}
+use Rattle.rw_tree.specs.Trees.{Expression, variable, constructor, application, tuple, lambda, let_in, if_then_else, case_of, do_block, Expressions}
+use Rattle.rw_tree.specs.Trees.{alternative, Alternatives, no_alternatives, more_alternatives, RightSide, plain_side, guarded_side, guarded_body, GuardedBodies, no_bodies, more_bodies}
+use Rattle.rw_tree.specs.Trees.{Statement, local_pattern, LocalBindings, bind_statement, let_statement, run_statement, Statements, no_statements, more_statements}
+use Rattle.rw_tree.specs.Declarations.{Declaration}
 use Rattle.rw_core.specs.Options.{◌>>=◌}
 use Rattle.rw_meaning.specs.Evaluation.{patterns_before, declaration_at, fields_at, constructors_in}
 use Rattle.rw_core_flat.specs.Programs.{FlatFunction}
-use Rattle.rw_core_flat.specs.Terms.{FlatPattern, any_pattern, bound_pattern, built_pattern, FlatPatterns, no_patterns as no_flat_patterns, more_patterns as more_flat_patterns}
+use Rattle.rw_core_flat.specs.Terms.{FlatPattern, bound_pattern, built_pattern, FlatPatterns, no_patterns as no_flat_patterns, more_patterns as more_flat_patterns}
 use Rattle.rw_core_flat.specs.Terms.{FlatTerm, local_term, built_term, case_term, let_term, call_term, mark_term, return_term, get_term, put_term, lift_term, bind_term, signal_term, extrude_term, FlatTerms, no_terms, more_terms}
 use Rattle.rw_core_flat.specs.Terms.{FlatLets, no_lets, more_lets, FlatRows, no_rows, more_rows, FlatArms, body_arm, no_arms, more_arms}
 use Rattle.rw_meaning.specs.Systems.{binding_of}
-use Rattle.inline_ho_rules.specs.Meants.{Meant, flat, suspended, local_use, unplaced, Meants, no_meants, more_meants, meant_at, joined_meants, meant_count, placed, all_unplaced, suspended_parts, flats, first_meants, later_meants, IsPattern, ArePatterns, Columns, no_columns, value_column, other_column, AreColumns, AreMatched, AreVariables, clauses_at, StandsIn, placed_all, declared_clauses}
+use Rattle.inline_ho_rules.specs.Meants.{Meant, flat, suspended, local_use, Meants, no_meants, more_meants, meant_at, joined_meants, meant_count, placed, all_unplaced, suspended_parts, flats, first_meants, later_meants, IsPattern, Columns, no_columns, value_column, AreColumns, AreMatched, AreVariables, clauses_at, StandsIn, placed_all, declared_clauses}
 
 -- == Tests ==
 

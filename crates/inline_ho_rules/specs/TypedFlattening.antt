@@ -1,5 +1,5 @@
 -- Which flat term a typed expression, with closed types at its nodes, flattens to: at most one.
-use Rattle.std.specs.Prelude.{◌≡◌, ℕ, zero, suc, ◌+◌, Bool, true, false, List, [], ◌∷◌, length, Option, Some, None}
+use Rattle.std.specs.Prelude.{◌≡◌, ℕ, zero, suc, ◌+◌, Bool, true, false, List, [], ◌∷◌, length, Option, Some}
 use Rattle.rw_scope_rules.specs.declared.binding.Operation.TheVariants.{Return, Bind, Then, Get, Put, Lift, Signal, Extrude}
 use Rattle.rw_scope_rules.specs.declared.binding.Binding.{Binding}
 use Rattle.rw_scope_rules.specs.declared.binding.Binding.TheVariants.{Declared, Operation as Operates, Constructor as Constructs, Local}
@@ -7,9 +7,9 @@ use Rattle.rw_scope_rules.specs.declared.binding.Bound.{Bound}
 use Rattle.rw_scope_rules.specs.Bindings.{binding_variables, group_variables}
 use Rattle.rw_scope_rules.specs.Nodes.{bindings_of}
 use Rattle.rw_scope_orders.specs.Groups.{Numbered, in_order}
-use Rattle.rw_tree.specs.Patterns.{Pattern, wildcard, variable_pattern, constructor_pattern, tuple_pattern, Patterns, no_patterns, more_patterns}
-use Rattle.rw_tree.specs.Trees.{Expression, variable, constructor, application, tuple, chain, lambda, let_in, if_then_else, case_of, do_block, Expressions, no_expressions, more_expressions}
-use Rattle.rw_tree.specs.Trees.{Alternative, alternative, Alternatives, no_alternatives, more_alternatives, RightSide, plain_side, guarded_side, GuardedBody, guarded_body, GuardedBodies, no_bodies, more_bodies}
+use Rattle.rw_tree.specs.Patterns.{Pattern, variable_pattern}
+use Rattle.rw_tree.specs.Trees.{Expression, variable, constructor, application, tuple, lambda, let_in, if_then_else, case_of, do_block, Expressions}
+use Rattle.rw_tree.specs.Trees.{alternative, Alternatives, no_alternatives, more_alternatives, RightSide, plain_side, guarded_side, GuardedBody, guarded_body, GuardedBodies, no_bodies, more_bodies}
 use Rattle.rw_tree.specs.Trees.{LocalBinding, local_signature, local_function, local_pattern, LocalBindings, bind_statement, let_statement, run_statement, Statement, Statements, no_statements, more_statements}
 use Rattle.rw_tree.specs.Types.{WrittenType}
 use Rattle.rw_tree.specs.Declarations.{Declaration}
@@ -17,10 +17,10 @@ use Rattle.rw_core.specs.Options.{◌>>=◌}
 use Rattle.rw_meaning.specs.Evaluation.{declaration_at, fields_at, constructors_in}
 use Rattle.rw_types_solving.specs.Types.{Ty}
 use Rattle.rw_types_rules.specs.TypedTrees.{TypedNode, expression_type}
-use Rattle.rw_core_flat.specs.Terms.{FlatPattern, bound_pattern, built_pattern, FlatPatterns, no_patterns as no_flat_patterns, more_patterns as more_flat_patterns}
+use Rattle.rw_core_flat.specs.Terms.{FlatPattern, bound_pattern, FlatPatterns}
 use Rattle.rw_core_flat.specs.Terms.{FlatTerm, local_term, built_term, case_term, let_term, call_term, mark_term, return_term, get_term, put_term, lift_term, bind_term, signal_term, extrude_term, FlatTerms, no_terms, more_terms}
 use Rattle.rw_core_flat.specs.Terms.{FlatLets, no_lets, more_lets, FlatRows, no_rows, more_rows, FlatArms, body_arm, no_arms, more_arms}
-use Rattle.inline_ho_rules.specs.Meants.{Meant, flat, suspended, local_use, unplaced, Meants, no_meants, more_meants, meant_at, joined_meants, meant_count, placed, placed_all, all_unplaced, suspended_parts, flats, IsPattern, Columns, no_columns, value_column, other_column, AreColumns, AreMatched, AreVariables}
+use Rattle.inline_ho_rules.specs.Meants.{Meant, flat, suspended, local_use, Meants, no_meants, more_meants, meant_at, joined_meants, meant_count, placed, placed_all, all_unplaced, suspended_parts, flats, IsPattern, Columns, no_columns, value_column, AreColumns, AreMatched, AreVariables}
 use Rattle.inline_ho_rules.specs.Flattening.{if_rows, side_term}
 use Rattle.inline_ho_rules.specs.Orders.{is_data, is_low, parameters_of, result_of}
 

@@ -1,10 +1,9 @@
 -- The flat program of a typed program: exactly one.
-use Rattle.std.specs.Prelude.{◌≡◌, ◌≢◌, ℕ, zero, suc, ◌+◌, List, [], ◌∷◌, ◌++◌, map, length, slice_get, Bool, true, false, nat_eq, Option, Some, None, if◌then◌else◌, codes}
+use Rattle.std.specs.Prelude.{◌≡◌, ℕ, suc, ◌+◌, List, [], ◌∷◌, ◌++◌, map, length, nat_eq, Option, Some, None, if◌then◌else◌, codes}
 use Rattle.std.specs.List.{flat_map}
 use Rattle.rw_base.specs.declared.place.Place.{Place}
 use Rattle.rw_scope_rules.specs.declared.binding.Bound.{Bound}
-use Rattle.rw_scope_rules.specs.Bindings.{group_variables}
-use Rattle.rw_tree.specs.Trees.{Expression, Alternatives, alternative_parts, LocalBindings}
+use Rattle.rw_tree.specs.Trees.{Expression, Alternatives, alternative_parts}
 use Rattle.rw_tree.specs.Declarations.{Declaration, function_declaration}
 use Rattle.rw_core.specs.Options.{◌>>=◌}
 use Rattle.rw_core.specs.Systems.{System, leaf, side_by_side, fed_back}

@@ -1,16 +1,16 @@
 -- A greater budget never changes a result.
-use Rattle.std.proofs.Common.{◌≡◌, ℕ, zero, suc, ◌+◌, ◌≤◌, nat_eq, Bool, true, false, if◌then◌else◌, List, [], ◌∷◌, ◌++◌, length, Option, Some, None, refl, arith}
-use Rattle.rw_core.specs.Values.{Val, val, vals}
+use Rattle.std.proofs.Common.{◌≡◌, ℕ, zero, suc, ◌+◌, nat_eq, Bool, true, false, if◌then◌else◌, List, [], ◌∷◌, ◌++◌, length, Option, Some, None, refl, arith}
+use Rattle.rw_core.specs.Values.{Val, val}
 use Rattle.rw_core.specs.Options.{◌>>=◌, Grows}
-use Rattle.rw_core.specs.Traces.{Trace, End, waits, finished, and_on, without_state, shown}
-use Rattle.rw_core.specs.Systems.{System, system_outputs, Follows}
+use Rattle.rw_core.specs.Traces.{Trace, End, waits, finished, and_on, shown}
+use Rattle.rw_core.specs.Systems.{System, system_outputs}
 use Rattle.rw_core.proofs.Options.{grows_same, grows_on}
 use Rattle.rw_core.proofs.Systems.{system_follows, alike_same}
-use Rattle.rw_meaning.specs.Options.{Tried, stuck, passed_over, taken, and_try, or_try, tried, what_is_taken}
-use Rattle.rw_meaning.proofs.Grows.{Keeps, keeps_same, keeps_on, keeps_or, keeps_tried, grows_taken, grows_if}
+use Rattle.rw_meaning.specs.Options.{Tried, stuck, tried, what_is_taken}
+use Rattle.rw_meaning.proofs.Grows.{Keeps, keeps_same, keeps_on, keeps_or, keeps_tried, grows_taken}
 use Rattle.rw_core_flat.specs.Terms.{FlatTerm, local_term, built_term, case_term, let_term, call_term, mark_term, return_term, get_term, put_term, lift_term, bind_term, signal_term, extrude_term, FlatTerms, no_terms, more_terms}
 use Rattle.rw_core_flat.specs.Terms.{FlatLets, no_lets, more_lets, FlatRows, no_rows, more_rows, FlatArms, body_arm, no_arms, more_arms}
-use Rattle.rw_core_flat.specs.Meaning.{Mode, valued, acting, tracing, Answer, a_value, done, traced, as_value, as_trace, below, returned, stored, shown_as_signal, goes_on, above, silently, lifted, extruded, if_holds}
+use Rattle.rw_core_flat.specs.Meaning.{Mode, valued, acting, tracing, Answer, a_value, done, traced, as_value, as_trace, returned, stored, shown_as_signal, goes_on, above, silently, lifted, extruded, if_holds}
 use Rattle.rw_core_flat.specs.Meaning.{matched, row_matched, value_at, meaning, values, bound, rows_meaning, arms_meaning}
 use Rattle.rw_core_flat.specs.Programs.{FlatFunction, function_at, call_within, read_by, outputs_within}
 

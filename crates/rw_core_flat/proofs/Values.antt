@@ -1,11 +1,11 @@
 -- The values of a type are those that the table has.
-use Rattle.std.proofs.Common.{◌≡◌, ℕ, ◌<◌, List, [], ◌∷◌, length, Option, Some, sym, subst, ◌∙◌}
-use Rattle.std.specs.Prelude.{slice_get, slice_index_or}
+use Rattle.std.proofs.Common.{◌≡◌, ℕ, List, [], ◌∷◌, Some, sym, subst, ◌∙◌}
+use Rattle.std.specs.Prelude.{slice_get}
 use Rattle.std.proofs.lemmas.Option.{slice_get-get_or, get_or_from_slice_get, slice_get_within}
 use Rattle.rw_core.specs.declared.types.DataTy.{DataTy}
 use Rattle.rw_core.specs.Values.{Val, Vals, val, none, more}
 use Rattle.rw_core.specs.Bits.{constructors_of, fields_of, IsValue, AreValues}
-use Rattle.rw_core_flat.specs.WellTyped.{DataTypes, fields_in, AreInTable, Fits, FieldsFit}
+use Rattle.rw_core_flat.specs.WellTyped.{DataTypes, AreInTable, Fits, FieldsFit}
 
 module _ (types : DataTypes) (table : List DataTy) (h : AreInTable types table) where
   mutual

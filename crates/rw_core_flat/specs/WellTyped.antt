@@ -4,7 +4,7 @@ use Rattle.rw_core.specs.declared.types.DataTy.{DataTy}
 use Rattle.rw_core.specs.Bits.{constructors_of}
 use Rattle.rw_core.specs.Values.{Val, Vals, val, none, more}
 use Rattle.rw_core.specs.Options.{◌>>=◌}
-use Rattle.rw_meaning.specs.Options.{Tried, taken}
+use Rattle.rw_meaning.specs.Options.{taken}
 use Rattle.rw_core_flat.specs.Terms.{FlatPattern, any_pattern, bound_pattern, built_pattern, FlatPatterns, no_patterns, more_patterns}
 use Rattle.rw_core_flat.specs.Terms.{FlatTerm, local_term, built_term, case_term, let_term, call_term, mark_term, return_term, get_term, put_term, lift_term, bind_term, signal_term, extrude_term, FlatTerms, no_terms, more_terms}
 use Rattle.rw_core_flat.specs.Terms.{FlatLets, no_lets, more_lets, FlatRows, no_rows, more_rows, FlatArms, body_arm, no_arms, more_arms}
@@ -12,7 +12,6 @@ use Rattle.rw_core_flat.specs.Meaning.{matched, row_matched}
 use Rattle.rw_core_flat.specs.Programs.{FunctionKind, FlatFunction, function_at}
 use Rattle.rw_core_flat.specs.Programs as programs
 use Rattle.rw_core.specs.Systems.{System, leaf, side_by_side, fed_back}
-use Rattle.std.specs.List.{AllByRecursion}
 
 -- what monad: a state monad, or a device with these types of inputs and outputs
 pub data Monad : Type 0 where
@@ -162,4 +161,3 @@ module _ (types : DataTypes) (flat_functions : List FlatFunction) (signs : ℕ �
         → SystemTyped a i' o' → SystemTyped b i'' o'' → SystemTyped (side_by_side a b) i o
     fed_back_typed : {f g : ℕ} {a : System ℕ ℕ} {i o : ℕ} (i' o' : ℕ) → signs f ≡ Some (record { params = o' ∷ []; kind = of_data o }) → signs g ≡ Some (record { params = o' ∷ i ∷ []; kind = of_data i' })
         → SystemTyped a i' o' → SystemTyped (fed_back f g a) i o
-

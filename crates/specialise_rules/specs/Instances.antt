@@ -1,5 +1,5 @@
 -- The instances of a typed program: its declarations at closed types, as `start` needs them.
-use Rattle.std.specs.Prelude.{ℕ, zero, suc, nat_eq, nat_le, List, [], ◌∷◌, ◌++◌, map, Bool, true, false, ◌&&◌, not, slice_get, Option, Some, None, if◌then◌else◌, codes}
+use Rattle.std.specs.Prelude.{ℕ, zero, suc, nat_eq, nat_le, List, [], ◌∷◌, ◌++◌, map, Bool, true, false, ◌&&◌, slice_get, Option, Some, None, if◌then◌else◌, codes}
 use Rattle.std.specs.List.{flat_map, list_any}
 use Rattle.rw_scope_rules.specs.declared.binding.Binding.{Binding}
 use Rattle.rw_scope_rules.specs.declared.binding.Binding.TheVariants.{Declared}

@@ -1,5 +1,5 @@
 -- Rule E17: how many instances there may be, and how large their types.
-use Rattle.std.specs.Prelude.{◌≡◌, ◌≢◌, ◌⊎◌, ◌<◌, ℕ, suc, List, [], ◌∷◌, length, slice_get, Option, Some, None}
+use Rattle.std.specs.Prelude.{◌≡◌, ◌⊎◌, ◌<◌, ℕ, suc, List, [], length, slice_get, Some}
 use Rattle.std.specs.List.{sum_by}
 use Rattle.rw_tree.specs.Declarations.{Declaration}
 use Rattle.rw_types_solving.specs.Types.{Ty, nodes}

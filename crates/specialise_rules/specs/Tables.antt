@@ -1,14 +1,12 @@
 -- Tables of closed data types: each once, behind the types of its fields, in order of first sight.
 use Rattle.std.specs.Prelude.{◌≡◌, ℕ, suc, List, [], ◌∷◌, ◌++◌, map, true, false, get_or, Option, Some, None, if◌then◌else◌}
 use Rattle.std.specs.List.{flat_map, list_any}
-use Rattle.rw_tree.specs.Patterns.{Pattern}
 use Rattle.rw_tree.specs.Declarations.{Declaration, function_declaration}
-use Rattle.rw_tree.specs.Trees.{alternative, local_signature, local_function, local_pattern, bind_statement, let_statement, run_statement}
+use Rattle.rw_tree.specs.Trees.{alternative, local_signature, local_function, local_pattern}
 use Rattle.rw_scope_rules.specs.Nodes.{Node, expression_node, pattern_node, clause_node, group_node, binding_node, statement_node, declaration_nodes}
-use Rattle.rw_core.specs.Options.{◌>>=◌}
 use Rattle.rw_types_solving.specs.declared.term.Head.TheVariants as h
 use Rattle.rw_types_solving.specs.Types.{Ty, Tys, var, app, none, more, apply}
-use Rattle.rw_types_rules.specs.Schemes.{Scheme, World}
+use Rattle.rw_types_rules.specs.Schemes.{World}
 use Rattle.rw_types_rules.specs.TypedTrees.{TypedNode, expression_type, pattern_type}
 use Rattle.rw_types_rules.specs.WellTyped.{given}
 use Rattle.specialise_rules.specs.Instances.{Instance, same_type, declared_in}
