@@ -3,9 +3,9 @@
 --     flip b = case b of { False -> True ; True -> False }
 --     device x = signal x >>= \i -> device (flip i)
 --     start = device False
-use Rattle.std.specs.Prelude.{◌≡◌, ℕ, zero, suc, ◌≤◌, List, [], ◌∷◌, Option, Some, None, codes}
+use Rattle.std.specs.Prelude.{ℕ, zero, suc, List, [], ◌∷◌, Option, Some, None, codes}
 use Rattle.rw_core.specs.Values.{Val, val, none}
-use Rattle.rw_core_flat.specs.Terms.{FlatTerm, local_term, built_term, case_term, call_term, bind_term, signal_term, no_terms, more_terms, FlatRows, no_rows, more_rows, no_lets, body_arm, built_pattern, no_patterns, more_patterns}
+use Rattle.rw_core_flat.specs.Terms.{local_term, built_term, case_term, call_term, bind_term, signal_term, no_terms, more_terms, FlatRows, no_rows, more_rows, no_lets, body_arm, built_pattern, no_patterns, more_patterns}
 use Rattle.rw_core_flat.specs.Programs.{FlatFunction, pure, device}
 use Rattle.rw_core_flat.specs.WellTyped.{Sign, signs_of}
 

@@ -6,3 +6,4 @@ pub mod Orders
 pub mod TypedFlattening
 pub mod Untyped
 pub mod TypedPrograms
+pub mod OrderRules

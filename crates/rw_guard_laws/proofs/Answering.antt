@@ -1,13 +1,13 @@
 -- What is asked of a term of a kind, which answers fit, and how answers go on.
-use Rattle.std.proofs.Common.{◌≡◌, ℕ, zero, suc, ◌+◌, ◌≤◌, ◌<◌, List, [], ◌∷◌, ◌++◌, length, Option, Some, None, ◌⊎◌, inl, inr, refl, arith, ap, sym, ◌∙◌, subst}
+use Rattle.std.proofs.Common.{◌≡◌, ℕ, suc, ◌+◌, ◌≤◌, ◌<◌, List, [], ◌∷◌, ◌++◌, length, Option, Some, ◌⊎◌, inl, inr, refl, arith, ap, ◌∙◌}
 use Rattle.std.proofs.lemmas.List.{length-append}
-use Rattle.rw_core.specs.Values.{Val, Vals, val, none, more, vals}
+use Rattle.rw_core.specs.Values.{Val, val, none}
 use Rattle.rw_core.specs.Options.{◌>>=◌}
 use Rattle.rw_core.specs.Traces.{End, waits, finished, without_state}
 use Rattle.rw_core_flat.specs.Meaning.{Mode, valued, acting, tracing, Answer, a_value, done, traced, as_value, as_trace, of_trace, below, returned, got, stored, shown_as_signal, goes_on, above, silently, lifted, extruded}
 use Rattle.std.specs.List.{AllByRecursion}
-use Rattle.rw_core_flat.specs.WellTyped.{Monad, state, device, Kind, of_data, doing, DataTypes, Fits, FieldsFit, AllFit}
-use Rattle.rw_guard_laws.proofs.Parts.{every_joined, then_it}
+use Rattle.rw_core_flat.specs.WellTyped.{Monad, state, device, Kind, of_data, doing, DataTypes, Fits, AllFit}
+use Rattle.rw_guard_laws.proofs.Parts.{every_joined}
 
 -- the inputs that are left
 abbrev pub left : Mode → ℕ

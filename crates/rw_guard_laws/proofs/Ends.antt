@@ -1,15 +1,15 @@
 -- Calls end: within a budget above a measure, of the inputs left and the rank, each call has an answer.
-use Rattle.std.proofs.Common.{◌≡◌, ℕ, zero, suc, ◌+◌, ◌≤◌, ◌<◌, nat_eq, Bool, true, false, if◌then◌else◌, List, [], ◌∷◌, ◌++◌, length, Option, Some, None, ◌⊎◌, inl, inr, refl, arith, ap, sym, ◌∙◌, subst}
-use Rattle.rw_core.specs.Values.{Val, Vals, val, none}
+use Rattle.std.proofs.Common.{◌≡◌, ℕ, zero, suc, ◌+◌, ◌≤◌, ◌<◌, nat_eq, Bool, true, false, if◌then◌else◌, List, [], ◌∷◌, length, Option, Some, None, inr, arith, sym, ◌∙◌, subst}
+use Rattle.rw_core.specs.Values.{Val, val, none}
 use Rattle.rw_core.specs.Options.{◌>>=◌}
 use Rattle.rw_core_flat.specs.Terms.{FlatTerm, built_term, no_terms}
-use Rattle.rw_core_flat.specs.Meaning.{Mode, valued, acting, tracing, Answer, a_value, done, traced, as_value, meaning}
+use Rattle.rw_core_flat.specs.Meaning.{Mode, valued, Answer, a_value, as_value, meaning}
 use Rattle.rw_core_flat.specs.Programs.{FlatFunction, function_at, call_within}
 use Rattle.std.specs.List.{AllByRecursion}
-use Rattle.rw_guard_rules.specs.Signals.{Signals, Held, calls_in, Guarded, CallsEnd}
-use Rattle.rw_core_flat.specs.WellTyped.{Kind, of_data, doing, Sign, DataTypes, Fits, AllFit, Typed, FunctionTyped}
+use Rattle.rw_guard_rules.specs.Signals.{Signals, calls_in, CallsEnd}
+use Rattle.rw_core_flat.specs.WellTyped.{Kind, of_data, Sign, DataTypes, Fits, AllFit, Typed, FunctionTyped}
 use Rattle.rw_guard_laws.proofs.Parts.{every_map, all_long, same_held, same_number}
-use Rattle.rw_guard_laws.proofs.Answering.{left, Asked, Answers, Goes, Gives, value_of}
+use Rattle.rw_guard_laws.proofs.Answering.{left, Asked, Gives, value_of}
 use Rattle.rw_guard_laws.proofs.Total.{BodySignals, term}
 
 -- the calls, one within another, that so many inputs leave room for

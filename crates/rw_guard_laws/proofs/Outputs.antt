@@ -4,17 +4,17 @@ use Rattle.std.specs.List.{AllByRecursion}
 use Rattle.std.proofs.lemmas.List.{length-append, length-replicate}
 use Rattle.rw_core.specs.Values.{Val, Vals, val, none, more}
 use Rattle.rw_core.specs.Options.{◌>>=◌, each, Grows}
-use Rattle.rw_core.specs.Systems.{System, leaf, side_by_side, fed_back, first_part, second_part, paired, last_of, fed, system_outputs, EachLeaf}
-use Rattle.rw_core.specs.Traces.{End, waits, finished, last_repeated, shown}
-use Rattle.rw_core_flat.specs.Terms.{FlatTerm, local_term, call_term, no_terms, more_terms}
-use Rattle.rw_core_flat.specs.Meaning.{Mode, valued, tracing, Answer, a_value, done, traced, as_value, as_trace, meaning}
+use Rattle.rw_core.specs.Systems.{System, first_part, second_part, paired, last_of, fed, system_outputs, EachLeaf}
+use Rattle.rw_core.specs.Traces.{waits, finished, last_repeated, shown}
+use Rattle.rw_core_flat.specs.Terms.{local_term, call_term, no_terms, more_terms}
+use Rattle.rw_core_flat.specs.Meaning.{Mode, tracing, Answer, a_value, done, traced, as_trace}
 use Rattle.rw_core_flat.specs.Programs.{FlatFunction, call_within, read_by, outputs_within, FlatDenotes}
 use Rattle.rw_core_flat.proofs.Growing.{outputs_grow}
 use Rattle.rw_guard_rules.specs.Signals.{Signals, CallsEnd}
-use Rattle.rw_core_flat.specs.WellTyped.{device, of_data, doing, Sign, DataTypes, Fits, FieldsFit, AllFit, Typed, is_local, is_call, no_typed, more_typed, FunctionTyped, SystemTyped, leaf_typed, pair_typed, fed_back_typed}
+use Rattle.rw_core_flat.specs.WellTyped.{device, of_data, doing, Sign, DataTypes, Fits, FieldsFit, is_local, is_call, no_typed, more_typed, FunctionTyped, SystemTyped, leaf_typed, pair_typed, fed_back_typed}
 use Rattle.rw_guard_laws.specs.Guarded.{IsGuarded}
 use Rattle.rw_guard_laws.proofs.Parts.{every_joined}
-use Rattle.rw_guard_laws.proofs.Answering.{Fewer, Answers, Gives}
+use Rattle.rw_guard_laws.proofs.Answering.{Fewer, Answers}
 use Rattle.rw_guard_laws.proofs.Ends.{room, room_le, term_goes, value_goes}
 
 -- a list of so many that each fit

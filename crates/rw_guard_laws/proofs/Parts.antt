@@ -1,9 +1,9 @@
 -- Lists of facts, options that hold something, and patterns on values that fit.
-use Rattle.std.proofs.Common.{◌≡◌, ℕ, zero, suc, ◌+◌, ◌≤◌, ◌<◌, nat_eq, Bool, true, false, if◌then◌else◌, List, [], ◌∷◌, ◌++◌, length, Option, Some, None, refl, arith, ap, sym, ◌∙◌, subst}
+use Rattle.std.proofs.Common.{◌≡◌, ℕ, zero, suc, nat_eq, Bool, true, false, if◌then◌else◌, List, [], ◌∷◌, ◌++◌, length, Option, Some, None, refl, arith, ap, subst}
 use Rattle.std.proofs.lemmas.Bool.Decides.{nat_tests}
 use Rattle.rw_core.specs.Values.{Val, Vals, val, none, more, vals}
 use Rattle.rw_core.specs.Options.{◌>>=◌}
-use Rattle.rw_meaning.specs.Options.{Tried, stuck, passed_over, taken, and_try, or_try, tried, what_is_taken}
+use Rattle.rw_meaning.specs.Options.{Tried, stuck, passed_over, taken, and_try}
 use Rattle.rw_core_flat.specs.Terms.{FlatPattern, any_pattern, bound_pattern, built_pattern, FlatPatterns, no_patterns, more_patterns}
 use Rattle.rw_core_flat.specs.Meaning.{matched, parts_matched, row_matched, value_at}
 use Rattle.std.specs.List.{AllByRecursion}

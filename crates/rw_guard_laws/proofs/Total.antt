@@ -1,22 +1,22 @@
 -- A well-typed term has an answer that fits, over calls that do; what may be called falls with the inputs that are left.
-use Rattle.std.proofs.Common.{◌≡◌, ℕ, zero, suc, ◌+◌, ◌≤◌, ◌<◌, List, [], ◌∷◌, ◌++◌, length, Option, Some, None, ◌⊎◌, inl, inr, refl, arith, ap, sym, ◌∙◌, subst}
+use Rattle.std.proofs.Common.{◌≡◌, ℕ, zero, suc, ◌≤◌, ◌<◌, List, [], ◌∷◌, ◌++◌, length, Option, Some, None, ◌⊎◌, inl, inr, refl, arith, ap, sym, ◌∙◌, subst}
 use Rattle.std.proofs.lemmas.Bool.{cases_lt}
-use Rattle.rw_core.specs.Values.{Val, Vals, val, none, more, vals}
+use Rattle.rw_core.specs.Values.{Val, Vals, val, none, vals}
 use Rattle.rw_core.specs.Options.{◌>>=◌}
 use Rattle.rw_meaning.specs.Options.{Tried, stuck, passed_over, taken, and_try, or_try, tried, what_is_taken}
-use Rattle.rw_core_flat.specs.Terms.{FlatPattern, any_pattern, bound_pattern, built_pattern, FlatPatterns, no_patterns, more_patterns}
-use Rattle.rw_core_flat.specs.Terms.{FlatTerm, local_term, built_term, case_term, let_term, call_term, mark_term, return_term, get_term, put_term, lift_term, bind_term, signal_term, extrude_term, FlatTerms, no_terms, more_terms}
-use Rattle.rw_core_flat.specs.Terms.{FlatLets, no_lets, more_lets, FlatRows, no_rows, more_rows, FlatArms, body_arm, no_arms, more_arms}
-use Rattle.rw_core_flat.specs.Meaning.{Mode, valued, acting, tracing, Answer, a_value, done, traced, as_value, returned, stored, shown_as_signal, lifted, extruded, if_holds, matched, row_matched, meaning, values, bound, rows_meaning, arms_meaning}
+use Rattle.rw_core_flat.specs.Terms.{FlatPatterns}
+use Rattle.rw_core_flat.specs.Terms.{FlatTerm, local_term, built_term, case_term, let_term, call_term, mark_term, return_term, get_term, put_term, lift_term, bind_term, extrude_term, FlatTerms, no_terms}
+use Rattle.rw_core_flat.specs.Terms.{FlatLets, FlatRows, more_rows, FlatArms, body_arm, more_arms}
+use Rattle.rw_core_flat.specs.Meaning.{Mode, valued, acting, tracing, Answer, a_value, as_value, returned, stored, shown_as_signal, extruded, if_holds, row_matched, meaning, values, bound, rows_meaning, arms_meaning}
 use Rattle.rw_core_flat.specs.Programs.{FlatFunction, function_at}
-use Rattle.rw_guard_rules.specs.Signals.{Signals, signals_here, signals_left, signals_right, signals_case, signals_let, signals_mark, signals_call, signals_extrude, RowsSignal, no_row_left, each_row, ArmsSignal, the_body, no_arm_left, each_arm}
+use Rattle.rw_guard_rules.specs.Signals.{Signals, signals_left, signals_right, signals_case, signals_let, signals_mark, signals_call, signals_extrude, RowsSignal, each_row, ArmsSignal, the_body, each_arm}
 use Rattle.std.specs.List.{AllByRecursion}
 use Rattle.rw_guard_rules.specs.Signals.{Step, right_of, inward, aside, Held, calls_in, calls_in_all, calls_in_lets, calls_in_rows, calls_in_arms, Guarded}
-use Rattle.rw_core_flat.specs.WellTyped.{Monad, state, device, Kind, of_data, doing, Sign, DataTypes, Fits, FieldsFit, AllFit, type_at, pattern_types, patterns_types, IsTrueTerm, EndsOpen, Matched}
+use Rattle.rw_core_flat.specs.WellTyped.{Kind, of_data, Sign, DataTypes, Fits, AllFit, type_at, IsTrueTerm, EndsOpen, Matched}
 use Rattle.rw_core_flat.specs.WellTyped.{Typed, is_local, is_con, is_case, is_let, is_call, is_mark, is_return, is_get, is_put, lifts_state, lifts_device, is_bind, is_signal, is_extrude, AllTyped, no_typed, more_typed}
 use Rattle.rw_core_flat.specs.WellTyped.{LetsTyped, no_lets_typed, more_lets_typed, RowsTyped, no_rows_typed, more_rows_typed, ArmsTyped, body_typed, no_arms_typed, more_arms_typed}
-use Rattle.rw_guard_laws.proofs.Parts.{first, second, then_it, all_joined, looked_up, as_fields, Matches, pattern_matches, row_matches}
-use Rattle.rw_guard_laws.proofs.Answering.{left, Fewer, Asked, Answers, Goes, Gives, with_reason, value_of, return_goes, get_goes, put_goes, lift_acts, lift_traces, signal_goes, extrude_goes, bind_goes}
+use Rattle.rw_guard_laws.proofs.Parts.{first, second, all_joined, looked_up, as_fields, Matches, pattern_matches, row_matches}
+use Rattle.rw_guard_laws.proofs.Answering.{left, Asked, Goes, Gives, with_reason, value_of, return_goes, get_goes, put_goes, lift_acts, lift_traces, signal_goes, extrude_goes, bind_goes}
 
 -- what is must-signal, by its form
 bind_signals : {flat_functions : List FlatFunction} {t u : FlatTerm} → Signals flat_functions (bind_term t u) → Signals flat_functions t ⊎ Signals flat_functions u
