@@ -1,14 +1,14 @@
 -- Each word on what names stand for is the same without types.
-use Rattle.std.proofs.Common.{◌≡◌, ℕ, zero, suc, ◌+◌, ◌-◌, nat_le, Bool, true, false, List, [], ◌∷◌, ◌++◌, length, map, Option, Some, None, refl, arith, ap, sym, ◌∙◌, subst, length-append, if◌then◌else◌}
+use Rattle.std.proofs.Common.{◌≡◌, ℕ, zero, suc, ◌+◌, ◌-◌, nat_le, false, List, [], ◌∷◌, ◌++◌, length, map, Option, Some, None, refl, arith, ap, sym, ◌∙◌, subst, length-append, if◌then◌else◌}
 use Rattle.std.proofs.lemmas.Bool.Decides.{nat_tests}
 use Rattle.rw_scope_rules.specs.declared.binding.Bound.{Bound}
 use Rattle.rw_scope_rules.specs.Bindings.{pattern_variables, parts_variables, row_variables, binding_variables, group_variables}
 use Rattle.rw_tree.specs.Patterns.{Pattern, wildcard, variable_pattern, constructor_pattern, tuple_pattern, Patterns, no_patterns, more_patterns}
-use Rattle.rw_tree.specs.Trees.{Expression, Expressions, no_expressions, more_expressions, Alternative, alternative, Alternatives, no_alternatives, more_alternatives, LocalBinding, local_signature, local_function, local_pattern, LocalBindings, no_bindings, more_bindings}
+use Rattle.rw_tree.specs.Trees.{Expressions, no_expressions, more_expressions, alternative, Alternatives, no_alternatives, more_alternatives, LocalBinding, local_signature, local_function, local_pattern, LocalBindings, no_bindings, more_bindings}
 use Rattle.rw_meaning.specs.Evaluation.{patterns_before as bare_patterns_before}
 use Rattle.rw_types_rules.specs.TypedTrees.{TypedNode}
-use Rattle.rw_types_rules.specs.Relabelled.{relabelled_pattern, relabelled_parts, relabelled_row, relabelled_expressions, relabelled_alternatives, relabelled_binding, relabelled_group}
-use Rattle.inline_ho_rules.specs.Meants.{Meant, flat, suspended, local_use, unplaced, Meants, no_meants, more_meants, meant_at, joined_meants, meant_count, placed, placed_all, all_unplaced, suspended_parts, flats, StandsIn, stands_here, stands_later, clauses_at}
+use Rattle.rw_types_rules.specs.Relabelled.{relabelled_pattern, relabelled_parts, relabelled_row, relabelled_expressions, relabelled_binding, relabelled_group}
+use Rattle.inline_ho_rules.specs.Meants.{Meant, flat, suspended, unplaced, Meants, no_meants, more_meants, meant_at, joined_meants, meant_count, placed, placed_all, all_unplaced, suspended_parts, flats, StandsIn, stands_here, stands_later, clauses_at}
 use Rattle.inline_ho_rules.specs.TypedFlattening.{unplaced_names, patterns_before}
 use Rattle.inline_ho_rules.specs.Untyped.{node_of, bare_expression, bare_clauses, bare_meant, bare_meants}
 

@@ -6,9 +6,9 @@ use Rattle.rw_scope_rules.specs.declared.binding.Binding.TheVariants.{Operation 
 use Rattle.rw_scope_rules.specs.declared.binding.Bound.{Bound}
 use Rattle.rw_tree.specs.Trees.{variable}
 use Rattle.rw_tree.specs.Declarations.{Declaration}
-use Rattle.rw_core.specs.Values.{Val, Vals, val, none, more}
+use Rattle.rw_core.specs.Values.{Val, val, none}
 use Rattle.rw_core.specs.Options.{◌>>=◌}
-use Rattle.rw_meaning.specs.Results.{Outcome, datum, waiting_for_more, action, of_operation, Thunk, kept_call, known, Thunks, nothing, and_then, held, held_fields}
+use Rattle.rw_meaning.specs.Results.{Outcome, datum, waiting_for_more, action, of_operation, Thunk, kept_call, known, Thunks, nothing, and_then, held}
 use Rattle.rw_meaning.specs.Evaluation.{Task, evaluate, force, apply, step, result_within, operation_alone, applied}
 use Rattle.rw_core.specs.Traces.{End, waits, finished, Trace, and_on, without_state}
 use Rattle.rw_meaning.specs.Trace.{acted, traced, other_states, act_within, trace_within}
@@ -17,7 +17,7 @@ use Rattle.rw_core.specs.Eventually.{Eventually}
 use Rattle.rw_core.proofs.Eventually.{always, mapped, mapped_two, later, if_on, if_map}
 use Rattle.std.specs.Option.{IfSome}
 use Rattle.rw_meaning.proofs.Acting.{acts, traces, held_stands}
-use Rattle.rw_meaning.specs.Steps.{Acts, Traces, Gives, Stands, FieldsStand, AllStand, EachStands}
+use Rattle.rw_meaning.specs.Steps.{Acts, Traces, Gives, Stands, AllStand, EachStands}
 use Rattle.inline_ho_laws.proofs.Stands.{EndStands, Observed, ReachesAnswer}
 use Rattle.rw_meaning.proofs.Applying.{applied_to_nothing, gives_step}
 use Rattle.inline_ho_laws.proofs.Rules.{given_to_nothing}

@@ -1,5 +1,5 @@
 -- What is flat by the types is flat.
-use Rattle.std.proofs.Common.{◌≡◌, ℕ, zero, suc, ◌+◌, Bool, true, false, List, [], ◌∷◌, ◌++◌, length, Option, Some, None, refl, arith, ap, sym, ◌∙◌, subst, length-append, append-nil}
+use Rattle.std.proofs.Common.{◌≡◌, ℕ, suc, ◌+◌, List, ◌∷◌, ◌++◌, length, Option, Some, refl, arith, ap, sym, ◌∙◌, subst, length-append, append-nil}
 use Rattle.std.specs.List.{AllByRecursion}
 use Rattle.rw_scope_rules.specs.declared.binding.Binding.{Binding}
 use Rattle.rw_scope_rules.specs.declared.binding.Binding.TheVariants.{Local}
@@ -8,19 +8,19 @@ use Rattle.rw_scope_rules.specs.Bindings.{pattern_variables, parts_variables, gr
 use Rattle.rw_scope_rules.specs.Nodes.{bindings_of}
 use Rattle.rw_scope_orders.specs.Groups.{Numbered}
 use Rattle.rw_tree.specs.Patterns.{Pattern, Patterns}
-use Rattle.rw_tree.specs.Trees.{Expression, Expressions, variable, do_block, Alternatives, RightSide, GuardedBodies, LocalBindings, local_function, local_pattern, LocalBinding}
+use Rattle.rw_tree.specs.Trees.{Expression, Expressions, variable, do_block, Alternatives, RightSide, GuardedBodies, LocalBindings}
 use Rattle.rw_tree.specs.Declarations.{Declaration}
 use Rattle.rw_core.specs.Options.{◌>>=◌}
 use Rattle.rw_meaning.specs.Evaluation.{declaration_at}
 use Rattle.rw_meaning.specs.Systems.{binding_of}
 use Rattle.rw_types_solving.specs.Types.{Ty}
 use Rattle.rw_types_rules.specs.TypedTrees.{TypedNode}
-use Rattle.rw_types_rules.specs.Relabelled.{relabelled_pattern, relabelled_parts, relabelled_row, relabelled_expressions, relabelled_side, relabelled_bodies, relabelled_binding, relabelled_group, relabelled_statements}
+use Rattle.rw_types_rules.specs.Relabelled.{relabelled_pattern, relabelled_parts, relabelled_row, relabelled_expressions, relabelled_side, relabelled_bodies, relabelled_group}
 use Rattle.rw_core_flat.specs.Terms.{FlatPattern, FlatPatterns, more_patterns as more_flat_patterns, FlatTerm, FlatTerms, FlatLets, FlatRows, FlatArms}
 use Rattle.inline_ho_rules.specs.Meants.{Meant, flat, suspended, local_use, Meants, no_meants, more_meants, meant_at, joined_meants, all_unplaced, suspended_parts, placed, placed_all, flats, declared_clauses, Columns, value_column, StandsIn}
 use Rattle.inline_ho_rules.specs.Meants.{IsPattern, is_any, is_variable, is_built, is_tuple, ArePatterns, none_are, more_are, AreColumns, none_in, matched_in, named_in, ignored_in, AreMatched, none_matched, flat_matched, other_matched, AreVariables, none_variable, more_variable}
 use Rattle.inline_ho_rules.specs.Flattening as f
-use Rattle.inline_ho_rules.specs.TypedFlattening.{typed_binding, order_of, first_name, patterns_before}
+use Rattle.inline_ho_rules.specs.TypedFlattening.{typed_binding, first_name}
 use Rattle.inline_ho_rules.specs.TypedFlattening.{IsTypedFlat, is_variable as is_name, is_constructor, is_application, is_tuple_of, is_lambda, is_let, is_case, is_if, is_last, is_run, is_bound, is_let_then, unplaced_names, IsNamed, is_local, is_called, is_inlined, is_return, is_signal, is_put, is_get, is_lift, is_bind, is_then, is_extrude, IsLocal, is_flat, is_argument, is_used, IsDatum, suspended_datum, flat_datum, AreData, no_data, more_data, IsLambda, lambda_body, lambda_named, lambda_matched, IsInlined, is_group, AreParams, no_params, data_param, function_param, IsBody, plain_body, rows_body, AreRows, none_rows, some_rows, AreArms, one_arm, guarded_arms, AreGuarded, none_guarded, some_guarded, IsPlaced, all_placed, signature_placed, data_placed, use_placed, pattern_placed}
 use Rattle.inline_ho_rules.specs.Untyped.{node_of, bare_expression, bare_clauses, bare_meant, bare_meants, bare_columns}
 use Rattle.inline_ho_laws.proofs.Orders.{stands_all}

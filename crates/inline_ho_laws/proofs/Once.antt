@@ -1,20 +1,20 @@
 -- A typed expression flattens to one term at most.
-use Rattle.std.proofs.Common.{◌≡◌, ℕ, zero, suc, ◌+◌, Bool, true, false, List, [], ◌∷◌, length, Option, Some, None, refl, arith, ap, sym, ◌∙◌, subst}
+use Rattle.std.proofs.Common.{◌≡◌, ℕ, ◌+◌, Bool, true, false, List, Option, refl, arith, sym, ◌∙◌, subst}
 use mathlib.Core.Path.{subst₂, subst₃}
 use Rattle.rw_scope_rules.specs.declared.binding.Binding.{Binding}
 use Rattle.rw_scope_rules.specs.declared.binding.Bound.{Bound}
 use Rattle.rw_scope_rules.specs.Nodes.{bindings_of}
 use Rattle.rw_scope_orders.specs.Groups.{Numbered}
-use Rattle.rw_tree.specs.Patterns.{Pattern, Patterns, variable_pattern}
-use Rattle.rw_tree.specs.Trees.{Expression, do_block, Alternatives, alternative, no_alternatives, more_alternatives, RightSide, plain_side, GuardedBodies, LocalBindings}
+use Rattle.rw_tree.specs.Patterns.{Pattern, Patterns}
+use Rattle.rw_tree.specs.Trees.{Expression, do_block, Alternatives, RightSide, GuardedBodies, LocalBindings}
 use Rattle.rw_tree.specs.Declarations.{Declaration}
 use Rattle.rw_types_solving.specs.Types.{Ty}
 use Rattle.rw_types_rules.specs.TypedTrees.{TypedNode}
 use Rattle.rw_core_flat.specs.Terms.{FlatPattern, FlatPatterns, FlatTerm, FlatTerms, FlatLets, FlatRows, FlatArms}
 use Rattle.inline_ho_rules.specs.Orders.{is_data, is_low}
-use Rattle.inline_ho_rules.specs.Meants.{Meant, flat, suspended, Meants, no_meants, more_meants, joined_meants, placed, placed_all, flats, Columns}
+use Rattle.inline_ho_rules.specs.Meants.{Meant, Meants, no_meants, joined_meants, placed_all, flats, Columns}
 use Rattle.inline_ho_rules.specs.Meants.{IsPattern, is_any, is_variable, is_built, is_tuple, ArePatterns, none_are, more_are, AreColumns, none_in, matched_in, named_in, ignored_in, AreMatched, none_matched, flat_matched, other_matched, AreVariables, none_variable, more_variable}
-use Rattle.inline_ho_rules.specs.TypedFlattening.{typed_binding, is_datum, is_plain, are_variables, order_of, first_name, unplaced_names}
+use Rattle.inline_ho_rules.specs.TypedFlattening.{typed_binding, is_datum, are_variables, order_of, first_name, unplaced_names}
 use Rattle.inline_ho_rules.specs.TypedFlattening.{IsTypedFlat, is_variable as is_name, is_constructor, is_application, is_tuple_of, is_lambda, is_let, is_case, is_if, is_last, is_run, is_bound, is_let_then, IsNamed, is_local, is_called, is_inlined, is_return, is_signal, is_put, is_get, is_lift, is_bind, is_then, is_extrude, IsLocal, is_flat, is_argument, is_used, IsDatum, suspended_datum, flat_datum, AreData, no_data, more_data, IsLambda, lambda_body, lambda_named, lambda_matched, IsInlined, is_group, AreParams, no_params, data_param, function_param, IsBody, plain_body, rows_body, AreRows, none_rows, some_rows, AreArms, one_arm, guarded_arms, AreGuarded, none_guarded, some_guarded, IsPlaced, all_placed, signature_placed, data_placed, use_placed, pattern_placed}
 
 pub clash : (x : Bool) → x ≡ true → x ≡ false → ⊥

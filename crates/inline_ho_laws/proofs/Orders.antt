@@ -2,9 +2,8 @@
 use Rattle.std.proofs.Common.{◌≡◌, ℕ, zero, suc, ◌+◌, Bool, true, false, if◌then◌else◌, List, [], ◌∷◌, length, Option, Some, None, refl, arith, subst}
 use Rattle.std.specs.List.{AllByRecursion}
 use Rattle.std.specs.Option.{IfSome}
-use Rattle.rw_scope_rules.specs.Bindings.{binding_variables}
 use Rattle.rw_scope_rules.specs.Nodes.{bindings_of}
-use Rattle.rw_scope_orders.specs.Placing.{next, without_next, before, placed_in, placed}
+use Rattle.rw_scope_orders.specs.Placing.{next, without_next, before, placed_in}
 use Rattle.rw_scope_orders.specs.Groups.{Numbered, numbered, waits}
 use Rattle.rw_tree.specs.Trees.{LocalBinding, LocalBindings, no_bindings, more_bindings}
 use Rattle.rw_types_rules.specs.TypedTrees.{TypedNode}
@@ -38,9 +37,10 @@ module _ {B : Type 0} (P : B → Type 0) (waits : List B → B → Bool) where
 
 numbered_hold : (P : Numbered TypedNode → Type 0) (k : ℕ) (bs : LocalBindings TypedNode) → ((i : ℕ) (b : LocalBinding TypedNode) → StandsIn bs (first_name (bindings_of bs) i) b → P (k + i, b)) → AllByRecursion P (numbered k (bindings_of bs))
 numbered_hold P k no_bindings h = tt
-numbered_hold P k (more_bindings b bs) h =
-    (let e : k + 0 ≡ k = omega arith in subst (λ z. P (z, b)) e (h 0 b stands_here),
-    numbered_hold P (suc k) bs (λ i c s. let e : k + suc i ≡ suc k + i = omega arith in subst (λ z. P (z, c)) e (h (suc i) c (stands_later s refl))))
+numbered_hold P k (more_bindings b bs) h = (
+  let e : k + 0 ≡ k = omega arith in subst (λ z. P (z, b)) e (h 0 b stands_here),
+  numbered_hold P (suc k) bs (λ i c s. let e : k + suc i ≡ suc k + i = omega arith in subst (λ z. P (z, c)) e (h (suc i) c (stands_later s refl))),
+)
 
 pub stands_all : (group : LocalBindings TypedNode) → AllByRecursion (λ x. StandsIn group (first_name (bindings_of group) x.0) x.1) (order_of group)
 stands_all group =

@@ -1,5 +1,5 @@
 -- What calls of flat functions give, their sources give; so does what is read of the parts of a system.
-use Rattle.std.proofs.Common.{◌≡◌, ℕ, zero, suc, ◌≤◌, nat_eq, Bool, true, false, if◌then◌else◌, List, [], ◌∷◌, length, Option, Some, None, refl, arith, ap, subst, ◌∙◌, sym}
+use Rattle.std.proofs.Common.{◌≡◌, ℕ, zero, suc, ◌≤◌, nat_eq, Bool, true, false, if◌then◌else◌, List, [], ◌∷◌, length, Option, Some, None, refl, arith, ap, subst, sym}
 use Rattle.std.proofs.lemmas.Bool.Decides.{nat_tests}
 use Rattle.std.specs.Option.{IfSome}
 use Rattle.rw_scope_rules.specs.declared.binding.Bound.{Bound}
@@ -9,13 +9,13 @@ use Rattle.rw_tree.specs.Declarations.{Declaration}
 use Rattle.rw_core.specs.Values.{Val}
 use Rattle.rw_core.specs.Options.{◌>>=◌}
 use Rattle.rw_core.specs.Eventually.{GrowsInTime}
-use Rattle.rw_core.specs.Traces.{End, waits, finished, Trace, shown}
-use Rattle.rw_core.specs.Systems.{System, leaf, side_by_side, fed_back, Reading, AreAlike}
+use Rattle.rw_core.specs.Traces.{End, waits, finished, shown}
+use Rattle.rw_core.specs.Systems.{System, leaf, side_by_side, fed_back, AreAlike}
 use Rattle.rw_core.proofs.Eventually.{if_on, if_map}
 use Rattle.rw_meaning.specs.Results.{Thunk, kept, kept_call, known, Thunks, nothing, and_then, how_many, first_thunks, later_thunks, held}
 use Rattle.rw_meaning.specs.Evaluation.{evaluate, force, inside_names, patterns_before, declaration_at}
 use Rattle.rw_meaning.specs.Outputs.{value_of_call, reading_in}
-use Rattle.rw_meaning.specs.Steps.{Gives, Stands, AllStand, EachStands, Shows, IsRealised}
+use Rattle.rw_meaning.specs.Steps.{Gives, AllStand, Shows, IsRealised}
 use Rattle.rw_meaning.proofs.Acting.{as_a_value, held_stands, shows, realised}
 use Rattle.rw_meaning.specs.Outputs.{Denotes}
 use Rattle.rw_core_flat.specs.Meaning.{Mode, valued, tracing, Answer, a_value, done, traced as a_trace, as_value, as_trace, meaning, bound}

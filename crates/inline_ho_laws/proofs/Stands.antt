@@ -2,10 +2,10 @@
 use Rattle.std.proofs.Common.{◌≡◌, ℕ, zero, suc, ◌+◌, List, [], ◌∷◌, ◌++◌, length, Option, Some, refl, arith, subst, append_assoc, length-append}
 use Rattle.rw_scope_rules.specs.declared.binding.Bound.{Bound}
 use Rattle.rw_tree.specs.Declarations.{Declaration}
-use Rattle.rw_core.specs.Values.{Val, Vals, val, none, more, vals}
+use Rattle.rw_core.specs.Values.{Val, val, vals}
 use Rattle.rw_meaning.specs.Options.{Tried, taken}
 use Rattle.rw_meaning.specs.Results.{Outcome, datum, waiting_for_more, action, Thunk, Thunks, nothing, and_then, joined, thunk_at}
-use Rattle.rw_meaning.specs.Evaluation.{Task, evaluate, force, apply, result_within, clauses_there}
+use Rattle.rw_meaning.specs.Evaluation.{evaluate, force, apply, result_within, clauses_there}
 use Rattle.rw_core.specs.Traces.{End, waits, finished, Trace}
 use Rattle.rw_meaning.specs.Trace.{acted, traced, act_within, trace_within}
 use Rattle.rw_core_flat.specs.Meaning.{Mode, valued, acting, tracing, Answer, a_value, done, traced as a_trace, value_at}
