@@ -1,0 +1,4 @@
+-- Lemmas on what stands for values, and on matching.
+mod Standing
+mod Going
+mod Matches

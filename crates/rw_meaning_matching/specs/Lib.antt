@@ -1,0 +1,4 @@
+-- The words that public contracts rest on.
+pub mod Standing
+pub mod Exact
+pub mod Matching

@@ -1,0 +1,33 @@
+// Laws of the definitions: each is the contract of a function that does nothing.
+ghost use Rattle.std.specs.Prelude.{◌≡◌, ℕ, List, length};
+ghost use Rattle.rw_scope_rules.specs.declared.binding.Bound.{Bound};
+ghost use Rattle.rw_tree.specs.Patterns.{Pattern};
+ghost use Rattle.rw_tree.specs.Declarations.{Declaration};
+ghost use Rattle.rw_core.specs.Values.{Val};
+ghost use Rattle.rw_cover_matrix.specs.Values.{Shape, Shapes, Value, Values, IsValue};
+ghost use Rattle.rw_cover_matrix.specs.Matching.{matches, row_matches};
+ghost use Rattle.rw_cover.specs.Rows.{matrix_pattern, matrix_row};
+ghost use Rattle.rw_meaning.specs.Results.{Thunk, Thunks, how_many};
+ghost use Rattle.rw_meaning.specs.Steps.{Stands};
+ghost use Rattle.rw_meaning_matching.specs.Standing.{matrix_value, StandsFor, StandForEach, AreFirstValues};
+ghost use Rattle.rw_meaning_matching.specs.Exact.{IsExactly, IsExactRow};
+ghost use Rattle.rw_meaning_matching.specs.Matching.{seen_by, seen_by_row, GoesAs, matched, row_matched};
+
+/// What stands for a value of closed data stands for it as a value of the matrix, and back. Two values of closed data are two
+/// values of the matrix.
+pub fn values_are_embedded()
+    ensures embedded { (program : List (Declaration Bound)) (t : Thunk) (v : Val) → Stands program t v → StandsFor program t (matrix_value v) }
+    ensures back { (program : List (Declaration Bound)) (t : Thunk) (v : Val) → StandsFor program t (matrix_value v) → Stands program t v }
+    ensures one { (v w : Val) → matrix_value v ≡ matrix_value w → v ≡ w }
+{}
+
+/// A pattern that fits a shape exactly is taken by what stands for a value of that shape exactly where the value matches it, with
+/// what its variables stand for, and is else passed over.
+pub fn patterns_are_matched()
+    ensures { (program : List (Declaration Bound)) (counts : List ℕ) (p : Pattern Bound) (shape : Shape) (v : Value) (t : Thunk) → IsExactly p shape → IsValue v shape → StandsFor program t v → GoesAs program (matches (matrix_pattern counts p) v) (matched program p t) (seen_by p v) }
+{}
+
+/// So are the patterns of a row, against as many arguments, from left to right.
+pub fn rows_are_matched()
+    ensures { (program : List (Declaration Bound)) (counts : List ℕ) (pats : List (Pattern Bound)) (columns : Shapes) (given : Values) (ts : Thunks) → IsExactRow pats columns → AreFirstValues given columns → length pats ≡ how_many ts → StandForEach program ts given → GoesAs program (row_matches (matrix_row counts pats) given) (row_matched program pats ts) (seen_by_row pats given) }
+{}
