@@ -4,8 +4,8 @@ mod Founded
 mod Unfolding
 mod Shaped
 mod Alone
-mod Stands
-mod Worlds
+pub mod Stands
+pub mod Worlds
 mod Columns
 mod Programs
 mod Typable

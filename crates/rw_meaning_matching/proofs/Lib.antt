@@ -1,4 +1,5 @@
--- Lemmas on what stands for values, and on matching.
+-- Lemmas on what stands for values, on matching, and on typed patterns.
 mod Standing
 mod Going
 mod Matches
+mod Typed

@@ -5,12 +5,26 @@ use Rattle.rw_scope_rules.specs.declared.binding.Binding.{Binding}
 use Rattle.rw_scope_rules.specs.declared.binding.Binding.TheVariants.{Constructor as Constructs}
 use Rattle.rw_scope_rules.specs.declared.binding.Bound.{Bound}
 use Rattle.rw_tree.specs.Patterns.{Pattern, wildcard, variable_pattern, constructor_pattern, tuple_pattern, Patterns, no_patterns, more_patterns}
+use Rattle.rw_types_rules.specs.Relabelled.{relabelled_pattern, relabelled_row}
+use Rattle.rw_types_rules.specs.TypedTrees.{TypedNode}
 use Rattle.rw_cover_matrix.specs.Values.{Shape, data_of, Shapes, no_shapes, more_shapes, one_choice, choices_count, fields_of}
 
 -- a name is bound to a constructor, of whose place this holds
 abbrev pub IsConstructorAt : Option Binding → (ℕ → Type 0) → Type 0
 IsConstructorAt (Some (Constructs n place)) P = P place
 IsConstructorAt _ P = ⊥
+
+-- in a pattern, each name of a constructor is bound to a constructor
+abbrev mutual
+  pub NamesConstructors : Pattern Bound → Type 0
+  NamesConstructors (wildcard a) = Unit {0}
+  NamesConstructors (variable_pattern a x) = Unit {0}
+  NamesConstructors (constructor_pattern a c parts) = IsConstructorAt a.bound (λ place. Unit {0}) × PartsNameConstructors parts
+  NamesConstructors (tuple_pattern a parts) = PartsNameConstructors parts
+
+  pub PartsNameConstructors : Patterns Bound → Type 0
+  PartsNameConstructors no_patterns = Unit {0}
+  PartsNameConstructors (more_patterns p ps) = NamesConstructors p × PartsNameConstructors ps
 
 -- a constructor's pattern is one of the type's own constructors, with a part for each of its fields; a tuple's has a part for each of its own
 abbrev mutual
@@ -32,3 +46,10 @@ abbrev pub IsExactRow : List (Pattern Bound) → Shapes → Type 0
 IsExactRow [] columns = Unit {0}
 IsExactRow (p ∷ ps) no_shapes = ⊥
 IsExactRow (p ∷ ps) (more_shapes shape columns) = IsExactly p shape × IsExactRow ps columns
+
+-- a typed pattern, and a row of them, before they were typed
+abbrev pub erased_pattern : Pattern TypedNode → Pattern Bound
+erased_pattern p = relabelled_pattern (λ a. a.node) p
+
+abbrev pub erased_row : List (Pattern TypedNode) → List (Pattern Bound)
+erased_row pats = relabelled_row (λ a. a.node) pats

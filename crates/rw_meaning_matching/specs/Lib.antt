@@ -2,3 +2,4 @@
 pub mod Standing
 pub mod Exact
 pub mod Matching
+pub mod Rows

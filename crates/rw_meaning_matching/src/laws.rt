@@ -1,16 +1,22 @@
 // Laws of the definitions: each is the contract of a function that does nothing.
 ghost use Rattle.std.specs.Prelude.{◌≡◌, ℕ, List, length};
+ghost use Rattle.std.specs.List.{AllByRecursion};
+ghost use Rattle.rw_base.specs.declared.place.Span.{Span};
 ghost use Rattle.rw_scope_rules.specs.declared.binding.Bound.{Bound};
 ghost use Rattle.rw_tree.specs.Patterns.{Pattern};
 ghost use Rattle.rw_tree.specs.Declarations.{Declaration};
 ghost use Rattle.rw_core.specs.Values.{Val};
+ghost use Rattle.rw_types_rules.specs.Schemes.{world_of};
+ghost use Rattle.rw_types_rules.specs.TypedTrees.{TypedNode, pattern_type, row_types};
+ghost use Rattle.rw_types_rules.specs.WellTyped.{PatternAgrees, RowAgrees};
 ghost use Rattle.rw_cover_matrix.specs.Values.{Shape, Shapes, Value, Values, IsValue};
 ghost use Rattle.rw_cover_matrix.specs.Matching.{matches, row_matches};
 ghost use Rattle.rw_cover.specs.Rows.{matrix_pattern, matrix_row};
+ghost use Rattle.rw_cover_laws.specs.Shapes.{fields_in, HasShape, HaveShapes};
 ghost use Rattle.rw_meaning.specs.Results.{Thunk, Thunks, how_many};
 ghost use Rattle.rw_meaning.specs.Steps.{Stands};
 ghost use Rattle.rw_meaning_matching.specs.Standing.{matrix_value, StandsFor, StandForEach, AreFirstValues};
-ghost use Rattle.rw_meaning_matching.specs.Exact.{IsExactly, IsExactRow};
+ghost use Rattle.rw_meaning_matching.specs.Exact.{NamesConstructors, IsExactly, IsExactRow, erased_pattern, erased_row};
 ghost use Rattle.rw_meaning_matching.specs.Matching.{seen_by, seen_by_row, GoesAs, matched, row_matched};
 
 /// What stands for a value of closed data stands for it as a value of the matrix, and back. Two values of closed data are two
@@ -30,4 +36,11 @@ pub fn patterns_are_matched()
 /// So are the patterns of a row, against as many arguments, from left to right.
 pub fn rows_are_matched()
     ensures { (program : List (Declaration Bound)) (counts : List ℕ) (pats : List (Pattern Bound)) (columns : Shapes) (given : Values) (ts : Thunks) → IsExactRow pats columns → AreFirstValues given columns → length pats ≡ how_many ts → StandForEach program ts given → GoesAs program (row_matches (matrix_row counts pats) given) (row_matched program pats ts) (seen_by_row pats given) }
+{}
+
+/// A typed pattern fits the shape of its type exactly, at every closed instance, and so does a row of them the shapes of its types,
+/// if the names of constructors are bound to constructors.
+pub fn typed_patterns_are_exact()
+    ensures pattern { (decls : List (Declaration Span)) (p : Pattern TypedNode) → PatternAgrees (world_of decls) p → NamesConstructors (erased_pattern p) → (variables unknowns : ℕ → Shape) (shape : Shape) → HasShape (fields_in (world_of decls)) variables unknowns shape (pattern_type p) → IsExactly (erased_pattern p) shape }
+    ensures row { (decls : List (Declaration Span)) (pats : List (Pattern TypedNode)) → RowAgrees (world_of decls) pats → AllByRecursion NamesConstructors (erased_row pats) → (variables unknowns : ℕ → Shape) (columns : Shapes) → HaveShapes (fields_in (world_of decls)) variables unknowns columns (row_types pats) → IsExactRow (erased_row pats) columns }
 {}

@@ -8,4 +8,6 @@
 
 mod laws;
 
-pub use laws::{patterns_are_matched, rows_are_matched, values_are_embedded};
+pub use laws::{
+    patterns_are_matched, rows_are_matched, typed_patterns_are_exact, values_are_embedded,
+};
