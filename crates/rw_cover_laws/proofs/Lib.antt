@@ -6,6 +6,6 @@ mod Shaped
 mod Alone
 pub mod Stands
 pub mod Worlds
-mod Columns
-mod Programs
-mod Typable
+pub mod Columns
+pub mod Programs
+pub mod Typable

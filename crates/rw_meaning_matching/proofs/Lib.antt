@@ -3,3 +3,6 @@ mod Standing
 mod Going
 mod Matches
 mod Typed
+mod Fitting
+mod Same
+mod Programs

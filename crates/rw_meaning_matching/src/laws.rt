@@ -8,15 +8,19 @@ ghost use Rattle.rw_tree.specs.Declarations.{Declaration};
 ghost use Rattle.rw_core.specs.Values.{Val};
 ghost use Rattle.rw_types_rules.specs.Schemes.{world_of};
 ghost use Rattle.rw_types_rules.specs.TypedTrees.{TypedNode, pattern_type, row_types};
-ghost use Rattle.rw_types_rules.specs.WellTyped.{PatternAgrees, RowAgrees};
+ghost use Rattle.rw_types_rules.specs.WellTyped.{PatternAgrees, RowAgrees, DeclarationAgrees};
 ghost use Rattle.rw_cover_matrix.specs.Values.{Shape, Shapes, Value, Values, IsValue};
 ghost use Rattle.rw_cover_matrix.specs.Matching.{matches, row_matches};
 ghost use Rattle.rw_cover.specs.Rows.{matrix_pattern, matrix_row};
+ghost use Rattle.rw_cover.specs.Coverage.{groups_of};
+ghost use Rattle.rw_cover.specs.Correct.{IsCovered};
 ghost use Rattle.rw_cover_laws.specs.Shapes.{fields_in, HasShape, HaveShapes};
+ghost use Rattle.rw_cover_laws.specs.Columns.{columns_of, untyped, world_in};
 ghost use Rattle.rw_meaning.specs.Results.{Thunk, Thunks, how_many};
 ghost use Rattle.rw_meaning.specs.Steps.{Stands};
 ghost use Rattle.rw_meaning_matching.specs.Standing.{matrix_value, StandsFor, StandForEach, AreFirstValues};
 ghost use Rattle.rw_meaning_matching.specs.Exact.{NamesConstructors, IsExactly, IsExactRow, erased_pattern, erased_row};
+ghost use Rattle.rw_meaning_matching.specs.Rows.{rows_of, AllNameConstructors, FitExactly, AllTakeEach};
 ghost use Rattle.rw_meaning_matching.specs.Matching.{seen_by, seen_by_row, GoesAs, matched, row_matched};
 
 /// What stands for a value of closed data stands for it as a value of the matrix, and back. Two values of closed data are two
@@ -43,4 +47,16 @@ pub fn rows_are_matched()
 pub fn typed_patterns_are_exact()
     ensures pattern { (decls : List (Declaration Span)) (p : Pattern TypedNode) → PatternAgrees (world_of decls) p → NamesConstructors (erased_pattern p) → (variables unknowns : ℕ → Shape) (shape : Shape) → HasShape (fields_in (world_of decls)) variables unknowns shape (pattern_type p) → IsExactly (erased_pattern p) shape }
     ensures row { (decls : List (Declaration Span)) (pats : List (Pattern TypedNode)) → RowAgrees (world_of decls) pats → AllByRecursion NamesConstructors (erased_row pats) → (variables unknowns : ℕ → Shape) (columns : Shapes) → HaveShapes (fields_in (world_of decls)) variables unknowns columns (row_types pats) → IsExactRow (erased_row pats) columns }
+{}
+
+/// The rows that have to cover in typed declarations, whose types agree, fit the types of their columns in the tree exactly, at every
+/// closed instance of these.
+pub fn typed_rows_are_exact()
+    ensures { (typed : List (Declaration TypedNode)) → AllByRecursion (DeclarationAgrees (world_in typed)) typed → FitExactly (world_in typed) (rows_of (untyped typed)) (columns_of typed) }
+{}
+
+/// So where they cover, as the Ok of `cover` of `rw_cover` says, some row takes all that stands for values of the columns' types, at
+/// every closed instance, and the rows before it are passed over.
+pub fn covered_rows_take_each_value()
+    ensures { (program : List (Declaration Bound)) (typed : List (Declaration TypedNode)) → AllByRecursion (DeclarationAgrees (world_in typed)) typed → AllNameConstructors (rows_of (untyped typed)) → AllByRecursion IsCovered (groups_of (untyped typed)) → AllTakeEach program (world_in typed) (rows_of (untyped typed)) (columns_of typed) }
 {}

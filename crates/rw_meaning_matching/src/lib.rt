@@ -9,5 +9,6 @@
 mod laws;
 
 pub use laws::{
-    patterns_are_matched, rows_are_matched, typed_patterns_are_exact, values_are_embedded,
+    covered_rows_take_each_value, patterns_are_matched, rows_are_matched, typed_patterns_are_exact,
+    typed_rows_are_exact, values_are_embedded,
 };
