@@ -21,17 +21,17 @@ use Rattle.rw_cover.specs.Rows.{is_total}
 use Rattle.rw_cover_laws.specs.Shapes.{fields_in, HaveShapes, IsWorld}
 use Rattle.rw_cover_laws.specs.Columns.{arguments_of, clauses_columns, node_columns, declaration_columns}
 use Rattle.rw_meaning_matching.specs.Exact.{NamesConstructors, IsExactRow, erased_row}
-use Rattle.rw_meaning_matching.specs.Rows.{pattern_row, pattern_rows, clauses_rows, node_rows, declaration_rows, FitExactly}
+use Rattle.rw_meaning_matching.specs.Rows.{PatternRow, has_body, row_with, RowNamesConstructors, pattern_row, pattern_rows, clauses_rows, node_rows, declaration_rows, FitExactly}
 use Rattle.rw_meaning_matching.proofs.Typed.{row_exact, first_exact}
 
 -- a row, and each of some rows, if its names of constructors are bound to constructors
 abbrev RowFits : List (Pattern Bound) → Shapes → Type 0
 RowFits pats columns = AllByRecursion NamesConstructors pats → IsExactRow pats columns
 
-abbrev RowsFit : List (List (Pattern Bound)) → Shapes → Type 0
-RowsFit rows columns = AllByRecursion (λ pats. AllByRecursion NamesConstructors pats → IsExactRow pats columns) rows
+abbrev RowsFit : List PatternRow → Shapes → Type 0
+RowsFit rows columns = AllByRecursion (λ r. RowNamesConstructors r → IsExactRow r.patterns columns) rows
 
-pub fit_behind : (world : World) (gs hs : List (List (List (Pattern Bound)))) (ts us : List (List Ty)) → FitExactly world gs ts → FitExactly world hs us → FitExactly world (gs ++ hs) (ts ++ us)
+pub fit_behind : (world : World) (gs hs : List (List PatternRow)) (ts us : List (List Ty)) → FitExactly world gs ts → FitExactly world hs us → FitExactly world (gs ++ hs) (ts ++ us)
 fit_behind world [] hs [] us h k = k
 fit_behind world [] hs (t ∷ ts) us h k = absurd h
 fit_behind world (g ∷ gs) hs [] us h k = absurd h
@@ -43,7 +43,7 @@ module _ (world : World) (counts : List ℕ) (is : IsWorld world counts) (known 
 
   both : (ns os : List (Node Bound)) (ms ps : List (Node TypedNode)) → Fit ns ms → Fit os ps → Fit (ns ++ os) (ms ++ ps)
   both ns os ms ps h k =
-      subst (λ (gs : List (List (List (Pattern Bound)))). FitExactly world gs (flat_map node_columns (ms ++ ps))) (sym (flat_map-append (node_rows known) ns os))
+      subst (λ (gs : List (List PatternRow)). FitExactly world gs (flat_map node_columns (ms ++ ps))) (sym (flat_map-append (node_rows known) ns os))
       (subst (λ (ts : List (List Ty)). FitExactly world (flat_map (node_rows known) ns ++ flat_map (node_rows known) os) ts) (sym (flat_map-append node_columns ms ps))
       (fit_behind world (flat_map (node_rows known) ns) (flat_map (node_rows known) os) (flat_map node_columns ms) (flat_map node_columns ps) h k))
 
@@ -63,18 +63,18 @@ module _ (world : World) (counts : List ℕ) (is : IsWorld world counts) (known 
   in_row [] = tt
   in_row (p ∷ ps) = both (pattern_nodes (relabelled_pattern (λ (a : TypedNode). a.node) p)) (row_nodes (relabelled_row (λ (a : TypedNode). a.node) ps)) (pattern_nodes p) (row_nodes ps) (in_pattern p) (in_row ps)
 
-  -- a right side that is always taken has a body, which tells the clause's type
-  side_type : (locals from : List Ty) (type : Ty) (side : RightSide TypedNode) → SideAgrees world locals from type side → is_total known (relabelled_side (λ (a : TypedNode). a.node) side) ≡ true → (to : Ty) × (type ≡ functions from to)
+  -- a right side that has a body: it tells the clause's type
+  side_type : (locals from : List Ty) (type : Ty) (side : RightSide TypedNode) → SideAgrees world locals from type side → has_body (relabelled_side (λ (a : TypedNode). a.node) side) ≡ true → (to : Ty) × (type ≡ functions from to)
   side_type locals from type (plain_side body) h total = (expression_type body, h.0)
   side_type locals from type (guarded_side no_bodies) h total = absurd (cc)
   side_type locals from type (guarded_side (more_bodies (guarded_body test body) bs)) h total = (expression_type body, h.0.0.1)
 
   -- the row of a clause, if it counts
-  clause_row : (variables unknowns : ℕ → Shape) (locals : List Ty) (type : Ty) (pats : List (Pattern TypedNode)) (side : RightSide TypedNode) (rest : List (List (Pattern Bound))) (columns : Shapes)
+  clause_row : (variables unknowns : ℕ → Shape) (locals : List Ty) (type : Ty) (pats : List (Pattern TypedNode)) (side : RightSide TypedNode) (rest : List PatternRow) (columns : Shapes)
       → RowAgrees world pats → SideAgrees world locals (row_types pats) type side → HaveShapes (fields_in world) variables unknowns columns (arguments_of type) → RowsFit rest columns
-      → RowsFit ((if is_total known (relabelled_side (λ (a : TypedNode). a.node) side) then erased_row pats ∷ [] else []) ++ rest) columns
+      → RowsFit ((if has_body (relabelled_side (λ (a : TypedNode). a.node) side) then row_with known (erased_row pats) (relabelled_side (λ (a : TypedNode). a.node) side) ∷ [] else []) ++ rest) columns
   clause_row variables unknowns locals type pats side rest columns row agrees have others =
-      elim (is_total known (relabelled_side (λ (a : TypedNode). a.node) side)) as (λ b. is_total known (relabelled_side (λ (a : TypedNode). a.node) side) ≡ b → RowsFit ((if b then erased_row pats ∷ [] else []) ++ rest) columns) [
+      elim (has_body (relabelled_side (λ (a : TypedNode). a.node) side)) as (λ b. has_body (relabelled_side (λ (a : TypedNode). a.node) side) ≡ b → RowsFit ((if b then row_with known (erased_row pats) (relabelled_side (λ (a : TypedNode). a.node) side) ∷ [] else []) ++ rest) columns) [
         | true ↦ (λ e.
             let t = side_type locals (row_types pats) type side agrees e in
             ((λ names. first_exact world counts is variables unknowns pats t.0 row names columns (subst (λ (ty : Ty). HaveShapes (fields_in world) variables unknowns columns (arguments_of ty)) t.1 have)), others))
@@ -110,9 +110,9 @@ module _ (world : World) (counts : List ℕ) (is : IsWorld world counts) (known 
   -- the one row of a pattern binding, if it counts
   binding_row : (variables unknowns : ℕ → Shape) (type : Ty) (pats : List (Pattern TypedNode)) (side : RightSide TypedNode) (columns : Shapes) → row_types pats ≡ type ∷ [] → RowAgrees world pats
       → HaveShapes (fields_in world) variables unknowns columns (type ∷ [])
-      → RowsFit (if is_total known (relabelled_side (λ (a : TypedNode). a.node) side) then erased_row pats ∷ [] else []) columns
+      → RowsFit (if has_body (relabelled_side (λ (a : TypedNode). a.node) side) then row_with known (erased_row pats) (relabelled_side (λ (a : TypedNode). a.node) side) ∷ [] else []) columns
   binding_row variables unknowns type pats side columns e row have =
-      elim (is_total known (relabelled_side (λ (a : TypedNode). a.node) side)) as (λ b. RowsFit (if b then erased_row pats ∷ [] else []) columns) [
+      elim (has_body (relabelled_side (λ (a : TypedNode). a.node) side)) as (λ b. RowsFit (if b then row_with known (erased_row pats) (relabelled_side (λ (a : TypedNode). a.node) side) ∷ [] else []) columns) [
         | true ↦ ((λ names. row_exact world counts is variables unknowns pats row names columns (subst (λ (ts : List Ty). HaveShapes (fields_in world) variables unknowns columns ts) (sym e) have)), tt)
         | false ↦ tt
       ]

@@ -1,5 +1,5 @@
 -- Of whole programs: some row takes each value where rows cover.
-use Rattle.std.proofs.Common.{◌≡◌, refl, sym, ap, subst, ◌∙◌, inl, inr, arith, ℕ, zero, suc, ◌<◌, List, [], ◌∷◌, ◌++◌, flat_map, map, length, Bool, true, false, ◌&&◌, ◌||◌}
+use Rattle.std.proofs.Common.{◌≡◌, refl, sym, ap, subst, ◌∙◌, inl, inr, arith, ℕ, zero, suc, ◌<◌, List, [], ◌∷◌, ◌++◌, flat_map, map, length, Bool, true, false, ◌&&◌, ◌||◌, if◌then◌else◌}
 use Rattle.std.specs.List.{AllByRecursion}
 use Rattle.rw_scope_rules.specs.declared.binding.Bound.{Bound}
 use Rattle.rw_tree.specs.Patterns.{Pattern}
@@ -24,9 +24,9 @@ use Rattle.rw_meaning.specs.Results.{Thunks, how_many, nothing, and_then}
 use Rattle.rw_meaning_matching.specs.Standing.{StandForEach, AreFirstValues}
 use Rattle.rw_meaning_matching.specs.Exact.{NamesConstructors, IsExactRow}
 use Rattle.rw_meaning_matching.specs.Matching.{seen_by_row, GoesAs, row_matched}
-use Rattle.rw_meaning_matching.specs.Rows.{declaration_rows, rows_of, FitExactly, AllNameConstructors, FirstTakes, TakeEach, AllTakeEach}
+use Rattle.rw_meaning_matching.specs.Rows.{PatternRow, declaration_rows, rows_of, FitExactly, RowNamesConstructors, AllNameConstructors, Unless, SomeTakes, TakeEach, AllTakeEach}
 use Rattle.rw_meaning_matching.proofs.Matches.{row_goes}
-use Rattle.rw_meaning_matching.proofs.Same.{AreSame, program_same}
+use Rattle.rw_meaning_matching.proofs.Same.{AreSame, counted_of, program_same}
 use Rattle.rw_meaning_matching.proofs.Fitting.{fit_behind, declaration_fits}
 
 declarations_fit : (world : World) (counts : List ℕ) → IsWorld world counts → (known : Known) (typed : List (Declaration TypedNode)) → AllByRecursion (DeclarationAgrees world) typed
@@ -66,31 +66,39 @@ module _ (program : List (Declaration Bound)) (counts : List ℕ) where
       (filled_matches ps vs columns ts are.1 stand.1 (let e : suc (length ps) ≡ suc (how_many ts) = same in omega arith))
 
   module _ (columns : Shapes) (given : Values) (ts : Thunks) (are : AreFirstValues given columns) (stand : StandForEach program ts given) where
-    -- the first row either goes as its matrix row says, or it is one of the others
-    row_first : (b : Bool) (pats : List (Pattern Bound)) (rows : List (List (Pattern Bound))) → GoesAs program b (row_matched program pats ts) (seen_by_row pats given) → (b ≡ false → FirstTakes program rows given ts)
-        → FirstTakes program (pats ∷ rows) given ts
-    row_first true pats rows goes others = inl goes
-    row_first false pats rows goes others = inr (goes, others refl)
+    unless_from : (b : Bool) (P : Type 0) → (b ≡ false → P) → Unless b P
+    unless_from true P h = tt
+    unless_from false P h = h refl
 
-    others_match : (b c : Bool) → (b || c) ≡ true → b ≡ false → c ≡ true
-    others_match true c h e = absurd (cc)
-    others_match false c h e = h
+    second_holds : (b c : Bool) → (b || c) ≡ true → (b && true) ≡ false → c ≡ true
+    second_holds true c h e = absurd (cc)
+    second_holds false c h e = h
 
-    first_takes : (rows : List (List (Pattern Bound))) → AllByRecursion (λ pats. AllByRecursion NamesConstructors pats → IsExactRow pats columns) rows → AllByRecursion (AllByRecursion NamesConstructors) rows
-        → AllByRecursion (λ pats. length pats ≡ how_many ts) rows → some_row_matches (map (matrix_row counts) rows) (filled given columns) ≡ true → FirstTakes program rows given ts
-    first_takes [] fit names same h = absurd (cc)
-    first_takes (pats ∷ rows) fit names same h =
-        let e = filled_matches pats given columns ts are stand same.0 in
-        row_first (row_matches (matrix_row counts pats) given) pats rows (row_goes program counts pats columns given ts (fit.0 names.0) are same.0 stand)
-        (λ no. first_takes rows fit.1 names.1 same.1
-            (others_match (row_matches (matrix_row counts pats) (filled given columns)) (some_row_matches (map (matrix_row counts) rows) (filled given columns)) h (e ∙ no)))
+    -- where the first row doesn't count, or doesn't match, one of the others does
+    others_match : (c : Bool) (row : List PlainPattern) (rest : List (List PlainPattern)) (all : Values) → some_row_matches ((if c then row ∷ [] else []) ++ rest) all ≡ true → (row_matches row all && c) ≡ false
+        → some_row_matches rest all ≡ true
+    others_match true row rest all h e = second_holds (row_matches row all) (some_row_matches rest all) h e
+    others_match false row rest all h e = h
 
-  pub take_each : (columns : Shapes) (rows : List (List (Pattern Bound))) → AllByRecursion (λ pats. AllByRecursion NamesConstructors pats → IsExactRow pats columns) rows → AllByRecursion (AllByRecursion NamesConstructors) rows
-      → Covers columns (map (matrix_row counts) rows) → TakeEach program columns rows
-  take_each columns rows fit names covers = λ given ts are stand same. first_takes columns given ts are stand rows fit names same (covers (filled given columns) (filled-are given columns are))
+    some_takes : (rows : List PatternRow) → AllByRecursion (λ r. RowNamesConstructors r → IsExactRow r.patterns columns) rows → AllByRecursion RowNamesConstructors rows
+        → AllByRecursion (λ r. length r.patterns ≡ how_many ts) rows → some_row_matches (flat_map (counted_of counts) rows) (filled given columns) ≡ true → SomeTakes program rows given ts
+    some_takes [] fit names same h = absurd (cc)
+    some_takes (r ∷ rows) fit names same h =
+        let e = filled_matches r.patterns given columns ts are stand same.0 in
+        let m = row_matches (matrix_row counts r.patterns) given in (
+          m,
+          row_goes program counts r.patterns columns given ts (fit.0 names.0) are same.0 stand,
+          unless_from (m && r.counts) (SomeTakes program rows given ts)
+              (λ no. some_takes rows fit.1 names.1 same.1
+                  (others_match r.counts (matrix_row counts r.patterns) (flat_map (counted_of counts) rows) (filled given columns) h (ap (λ (b : Bool). b && r.counts) e ∙ no))),
+        )
+
+  pub take_each : (columns : Shapes) (rows : List PatternRow) → AllByRecursion (λ r. RowNamesConstructors r → IsExactRow r.patterns columns) rows → AllByRecursion RowNamesConstructors rows
+      → Covers columns (flat_map (counted_of counts) rows) → TakeEach program columns rows
+  take_each columns rows fit names covers = λ given ts are stand same. some_takes columns given ts are stand rows fit names same (covers (filled given columns) (filled-are given columns are))
 
   -- group by group
-  pub all_take : (world : World) (groups : List Group) (rows : List (List (List (Pattern Bound)))) (types : List (List Ty)) → AreSame counts groups rows → FitExactly world rows types → AllNameConstructors rows → AllMatch world groups types
+  pub all_take : (world : World) (groups : List Group) (rows : List (List PatternRow)) (types : List (List Ty)) → AreSame counts groups rows → FitExactly world rows types → AllNameConstructors rows → AllMatch world groups types
       → AllTakeEach program world rows types
   all_take world [] [] [] same fit names match = tt
   all_take world [] [] (ts ∷ rest) same fit names match = absurd fit

@@ -3,41 +3,53 @@ use Rattle.std.proofs.Common.{◌≡◌, refl, sym, ap, subst, ◌∙◌, ℕ, L
 use Rattle.rw_scope_rules.specs.declared.binding.Bound.{Bound}
 use Rattle.rw_scope_rules.specs.Nodes.{Node, expression_node, pattern_node, clause_node, group_node, binding_node, statement_node, declaration_nodes, clauses_of}
 use Rattle.rw_tree.specs.Patterns.{Pattern}
-use Rattle.rw_tree.specs.Trees.{variable, constructor, application, tuple, chain, lambda, let_in, if_then_else, case_of, do_block, Alternative, alternative}
+use Rattle.rw_tree.specs.Trees.{variable, constructor, application, tuple, chain, lambda, let_in, if_then_else, case_of, do_block, Alternative, alternative, RightSide, plain_side, guarded_side, no_bodies, more_bodies}
 use Rattle.rw_tree.specs.Trees.{local_signature, local_function, local_pattern, bind_statement, let_statement, run_statement}
 use Rattle.rw_tree.specs.Declarations.{Declaration, import_declaration, data_declaration, fixity_declaration, signature_declaration, function_declaration, PlainProgram}
 use Rattle.rw_cover_matrix.specs.Matching.{PlainPattern}
 use Rattle.rw_cover.specs.declared.known.Known.{Known}
-use Rattle.rw_cover.specs.Rows.{matrix_row, is_total, counted_row, counted_rows, counts_of, known_of}
+use Rattle.rw_cover.specs.Rows.{matrix_row, is_total, last_holds, counted_row, counted_rows, counts_of, known_of}
 use Rattle.rw_cover.specs.Coverage.{Group, clauses_group, node_group, declaration_groups, groups_of}
-use Rattle.rw_meaning_matching.specs.Rows.{pattern_row, pattern_rows, clauses_rows, node_rows, declaration_rows, rows_of}
+use Rattle.rw_meaning_matching.specs.Rows.{PatternRow, has_body, row_with, pattern_row, pattern_rows, clauses_rows, node_rows, declaration_rows, rows_of}
+
+-- a row that counts, as a row of the matrix
+abbrev pub counted_of : List ℕ → PatternRow → List (List PlainPattern)
+counted_of counts r = if r.counts then matrix_row counts r.patterns ∷ [] else []
 
 -- group by group
-abbrev pub AreSame : List ℕ → List Group → List (List (List (Pattern Bound))) → Type 0
+abbrev pub AreSame : List ℕ → List Group → List (List PatternRow) → Type 0
 AreSame counts [] [] = Unit {0}
-AreSame counts (g ∷ gs) (r ∷ rs) = (g.rows ≡ map (matrix_row counts) r) × AreSame counts gs rs
+AreSame counts (g ∷ gs) (r ∷ rs) = (g.rows ≡ flat_map (counted_of counts) r) × AreSame counts gs rs
 AreSame counts _ _ = ⊥
 
+append_none : {X : Type 0} (xs : List X) → (xs ++ []) ≡ xs
+append_none [] = refl
+append_none (x ∷ xs) = ap (λ ys. x ∷ ys) (append_none xs)
+
 module _ (counts : List ℕ) where
-  same_behind : (gs hs : List Group) (rs ss : List (List (List (Pattern Bound)))) → AreSame counts gs rs → AreSame counts hs ss → AreSame counts (gs ++ hs) (rs ++ ss)
+  same_behind : (gs hs : List Group) (rs ss : List (List PatternRow)) → AreSame counts gs rs → AreSame counts hs ss → AreSame counts (gs ++ hs) (rs ++ ss)
   same_behind [] hs [] ss h k = k
   same_behind [] hs (r ∷ rs) ss h k = absurd h
   same_behind (g ∷ gs) hs [] ss h k = absurd h
   same_behind (g ∷ gs) hs (r ∷ rs) ss h k = (h.0, same_behind gs hs rs ss h.1 k)
 
   module _ (known : Known) where
-    same_row : (c : Alternative Bound) → counted_row counts known c ≡ map (matrix_row counts) (pattern_row known c)
-    same_row (alternative a pats side wheres) =
-        elim (is_total known side) as (λ b. (if b then matrix_row counts pats ∷ [] else []) ≡ map (matrix_row counts) (if b then pats ∷ [] else [])) [ true ↦ refl | false ↦ refl ]
+    -- a right side that is always taken has a body
+    same_side : (pats : List (Pattern Bound)) (side : RightSide Bound) (others : List (List PlainPattern)) (rest : List PatternRow) → others ≡ flat_map (counted_of counts) rest
+        → ((if is_total known side then matrix_row counts pats ∷ [] else []) ++ others) ≡ flat_map (counted_of counts) ((if has_body side then row_with known pats side ∷ [] else []) ++ rest)
+    same_side pats (plain_side body) others rest e = ap (λ (rows : List (List PlainPattern)). matrix_row counts pats ∷ rows) e
+    same_side pats (guarded_side no_bodies) others rest e = e
+    same_side pats (guarded_side (more_bodies b bs)) others rest e =
+        ap (λ (rows : List (List PlainPattern)). (if last_holds known (more_bodies b bs) then matrix_row counts pats ∷ [] else []) ++ rows) e
 
-    same_rows : (cs : List (Alternative Bound)) → counted_rows counts known cs ≡ map (matrix_row counts) (pattern_rows known cs)
+    same_rows : (cs : List (Alternative Bound)) → counted_rows counts known cs ≡ flat_map (counted_of counts) (pattern_rows known cs)
     same_rows [] = refl
-    same_rows (alternative a pats side wheres ∷ cs) =
-        elim (is_total known side)
-        as (λ b. ((if b then matrix_row counts pats ∷ [] else []) ++ counted_rows counts known cs) ≡ map (matrix_row counts) ((if b then pats ∷ [] else []) ++ pattern_rows known cs)) [
-          | true ↦ ap (λ (rows : List (List PlainPattern)). matrix_row counts pats ∷ rows) (same_rows cs)
-          | false ↦ same_rows cs
-        ]
+    same_rows (alternative a pats side wheres ∷ cs) = same_side pats side (counted_rows counts known cs) (pattern_rows known cs) (same_rows cs)
+
+    same_row : (c : Alternative Bound) → counted_row counts known c ≡ flat_map (counted_of counts) (pattern_row known c)
+    same_row (alternative a pats side wheres) =
+        sym (append_none (if is_total known side then matrix_row counts pats ∷ [] else [])) ∙ same_side pats side [] [] refl
+        ∙ ap (flat_map (counted_of counts)) (append_none (if has_body side then row_with known pats side ∷ [] else []))
 
     same_clauses : (cs : List (Alternative Bound)) → AreSame counts (clauses_group counts known cs) (clauses_rows known cs)
     same_clauses [] = tt
