@@ -15,13 +15,12 @@ use Rattle.rw_types_rules.specs.Schemes.{World}
 use Rattle.rw_types_rules.specs.Relabelled.{relabelled_pattern, relabelled_parts, relabelled_row, relabelled_expression, relabelled_expressions, relabelled_alternative, relabelled_alternatives, relabelled_side, relabelled_body, relabelled_bodies, relabelled_binding, relabelled_group, relabelled_statement, relabelled_statements}
 use Rattle.rw_types_rules.specs.TypedTrees.{TypedNode, erased, row_types, expression_type, row_locals, group_locals, statement_locals, are_none}
 use Rattle.rw_types_rules.specs.WellTyped.{RowAgrees, ExpressionAgrees, ExpressionsAgree, ClauseAgrees, ClausesAgree, SideAgrees, BodyAgrees, BodiesAgree, BindingAgrees, BoundPatternAgrees, GroupAgrees, StatementAgrees, StatementsAgree, AllClausesAgree, DeclarationAgrees}
-use Rattle.rw_cover_matrix.specs.Values.{Shape, Shapes, no_shapes, more_shapes}
+use Rattle.rw_cover_matrix.specs.Values.{Shape, Shapes}
 use Rattle.rw_cover.specs.declared.known.Known.{Known}
-use Rattle.rw_cover.specs.Rows.{is_total}
 use Rattle.rw_cover_laws.specs.Shapes.{fields_in, HaveShapes, IsWorld}
 use Rattle.rw_cover_laws.specs.Columns.{arguments_of, clauses_columns, node_columns, declaration_columns}
 use Rattle.rw_meaning_matching.specs.Exact.{NamesConstructors, IsExactRow, erased_row}
-use Rattle.rw_meaning_matching.specs.Rows.{PatternRow, has_body, row_with, RowNamesConstructors, pattern_row, pattern_rows, clauses_rows, node_rows, declaration_rows, FitExactly}
+use Rattle.rw_meaning_matching.specs.Rows.{PatternRow, has_body, row_with, RowNamesConstructors, pattern_rows, clauses_rows, node_rows, declaration_rows, FitExactly}
 use Rattle.rw_meaning_matching.proofs.Typed.{row_exact, first_exact}
 
 -- a row, and each of some rows, if its names of constructors are bound to constructors

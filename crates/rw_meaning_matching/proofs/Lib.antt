@@ -5,4 +5,5 @@ mod Matches
 mod Typed
 mod Fitting
 mod Same
+mod Bound
 mod Programs

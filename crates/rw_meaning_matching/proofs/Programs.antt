@@ -1,14 +1,16 @@
 -- Of whole programs: some row takes each value where rows cover.
-use Rattle.std.proofs.Common.{◌≡◌, refl, sym, ap, subst, ◌∙◌, inl, inr, arith, ℕ, zero, suc, ◌<◌, List, [], ◌∷◌, ◌++◌, flat_map, map, length, Bool, true, false, ◌&&◌, ◌||◌, if◌then◌else◌}
+use Rattle.std.proofs.Common.{◌≡◌, refl, ap, subst, ◌∙◌, arith, ℕ, suc, List, [], ◌∷◌, ◌++◌, flat_map, map, length, Bool, true, false, ◌&&◌, ◌||◌, if◌then◌else◌}
 use Rattle.std.specs.List.{AllByRecursion}
+use Rattle.rw_base.specs.declared.place.Span.{Span}
 use Rattle.rw_scope_rules.specs.declared.binding.Bound.{Bound}
+use Rattle.rw_scope_rules.specs.Bindings.{bound_program}
 use Rattle.rw_tree.specs.Patterns.{Pattern}
-use Rattle.rw_tree.specs.Declarations.{Declaration}
+use Rattle.rw_tree.specs.Declarations.{Declaration, PlainProgram}
 use Rattle.rw_types_solving.specs.Types.{Ty}
-use Rattle.rw_types_rules.specs.Schemes.{World}
+use Rattle.rw_types_rules.specs.Schemes.{World, world_of}
 use Rattle.rw_types_rules.specs.TypedTrees.{TypedNode, erased}
 use Rattle.rw_types_rules.specs.WellTyped.{DeclarationAgrees}
-use Rattle.rw_cover_matrix.specs.Values.{Shape, Shapes, no_shapes, more_shapes, Values, no_values, more_values, AreValues}
+use Rattle.rw_cover_matrix.specs.Values.{Shapes, no_shapes, more_shapes, Values, no_values, more_values, AreValues}
 use Rattle.rw_cover_matrix.specs.Matching.{PlainPattern, matches, row_matches}
 use Rattle.rw_cover_matrix.specs.Coverage.{Covers, some_row_matches}
 use Rattle.rw_cover_matrix.proofs.Rows.{some_values, some_values-are}
@@ -16,16 +18,18 @@ use Rattle.rw_cover.specs.declared.known.Known.{Known}
 use Rattle.rw_cover.specs.Rows.{matrix_pattern, matrix_row, counts_of, known_of}
 use Rattle.rw_cover.specs.Coverage.{Group, groups_of}
 use Rattle.rw_cover.specs.Correct.{IsCovered}
-use Rattle.rw_cover_laws.specs.Shapes.{fields_in, HaveShapes, IsWorld}
+use Rattle.rw_cover_laws.specs.Shapes.{IsWorld}
 use Rattle.rw_cover_laws.specs.Columns.{AllMatch, declaration_columns, world_in, untyped, columns_of}
+use Rattle.rw_cover_laws.specs.Typed.{IsSomeTyping, AreTyped, AreTypingsOf}
+use Rattle.rw_cover_laws.proofs.Typable.{bound_world_is, typings_match}
 use Rattle.rw_cover_laws.proofs.Programs.{all_match, program_stands}
 use Rattle.rw_cover_laws.proofs.Worlds.{typed_world_is}
 use Rattle.rw_meaning.specs.Results.{Thunks, how_many, nothing, and_then}
 use Rattle.rw_meaning_matching.specs.Standing.{StandForEach, AreFirstValues}
-use Rattle.rw_meaning_matching.specs.Exact.{NamesConstructors, IsExactRow}
-use Rattle.rw_meaning_matching.specs.Matching.{seen_by_row, GoesAs, row_matched}
+use Rattle.rw_meaning_matching.specs.Exact.{IsExactRow}
 use Rattle.rw_meaning_matching.specs.Rows.{PatternRow, declaration_rows, rows_of, FitExactly, RowNamesConstructors, AllNameConstructors, Unless, SomeTakes, TakeEach, AllTakeEach}
 use Rattle.rw_meaning_matching.proofs.Matches.{row_goes}
+use Rattle.rw_meaning_matching.proofs.Bound.{bound_names}
 use Rattle.rw_meaning_matching.proofs.Same.{AreSame, counted_of, program_same}
 use Rattle.rw_meaning_matching.proofs.Fitting.{fit_behind, declaration_fits}
 
@@ -90,7 +94,7 @@ module _ (program : List (Declaration Bound)) (counts : List ℕ) where
           row_goes program counts r.patterns columns given ts (fit.0 names.0) are same.0 stand,
           unless_from (m && r.counts) (SomeTakes program rows given ts)
               (λ no. some_takes rows fit.1 names.1 same.1
-                  (others_match r.counts (matrix_row counts r.patterns) (flat_map (counted_of counts) rows) (filled given columns) h (ap (λ (b : Bool). b && r.counts) e ∙ no))),
+              (others_match r.counts (matrix_row counts r.patterns) (flat_map (counted_of counts) rows) (filled given columns) h (ap (λ (b : Bool). b && r.counts) e ∙ no))),
         )
 
   pub take_each : (columns : Shapes) (rows : List PatternRow) → AllByRecursion (λ r. RowNamesConstructors r → IsExactRow r.patterns columns) rows → AllByRecursion RowNamesConstructors rows
@@ -116,3 +120,21 @@ pub program_takes : (program : List (Declaration Bound)) (typed : List (Declarat
 program_takes program typed agrees names covered =
     all_take program (counts_of (map erased typed)) (world_in typed) (groups_of (untyped typed)) (rows_of (untyped typed)) (columns_of typed)
     (program_same (untyped typed)) (program_fits typed agrees) names (all_match (world_in typed) (groups_of (untyped typed)) (columns_of typed) (program_stands typed agrees) covered)
+
+-- the rows of typings of a program's declarations
+typings_fit : (world : World) (counts : List ℕ) → IsWorld world counts → (known : Known) (ds : List (Declaration Bound)) (typed : List (Declaration TypedNode)) → AreTyped (IsSomeTyping world) ds typed
+    → FitExactly world (flat_map (declaration_rows known) ds) (flat_map declaration_columns typed)
+typings_fit world counts is known [] [] h = tt
+typings_fit world counts is known [] (t ∷ ts) h = absurd h
+typings_fit world counts is known (d ∷ ds) [] h = absurd h
+typings_fit world counts is known (d ∷ ds) (t ∷ ts) h =
+    fit_behind world (declaration_rows known d) (flat_map (declaration_rows known) ds) (declaration_columns t) (flat_map declaration_columns ts)
+    (subst (λ (e : Declaration Bound). FitExactly world (declaration_rows known e) (declaration_columns t)) h.0.2.erases (declaration_fits world counts is known t h.0.2.agrees))
+    (typings_fit world counts is known ds ts h.1)
+
+pub typings_take : (program : List (Declaration Bound)) (source : PlainProgram Span) (typed : List (Declaration TypedNode)) → AreTypingsOf source typed → AllByRecursion IsCovered (groups_of (bound_program source))
+    → AllTakeEach program (world_of source.declarations) (rows_of (bound_program source)) (columns_of typed)
+typings_take program source typed are covered =
+    let ds : List (Declaration Bound) = (bound_program source).declarations in
+    all_take program (counts_of ds) (world_of source.declarations) (groups_of (bound_program source)) (rows_of (bound_program source)) (columns_of typed)
+    (program_same (bound_program source)) (typings_fit (world_of source.declarations) (counts_of ds) (bound_world_is source) (known_of ds) ds typed are) (bound_names source) (typings_match source typed are covered)

@@ -1,5 +1,5 @@
 -- The groups of `rw_cover` have the rows of the tree, as rows of the matrix.
-use Rattle.std.proofs.Common.{◌≡◌, refl, sym, ap, subst, ◌∙◌, ℕ, List, [], ◌∷◌, ◌++◌, flat_map, map, Bool, true, false, if◌then◌else◌}
+use Rattle.std.proofs.Common.{append-nil, ◌≡◌, refl, sym, ap, ◌∙◌, ℕ, List, [], ◌∷◌, ◌++◌, flat_map, if◌then◌else◌}
 use Rattle.rw_scope_rules.specs.declared.binding.Bound.{Bound}
 use Rattle.rw_scope_rules.specs.Nodes.{Node, expression_node, pattern_node, clause_node, group_node, binding_node, statement_node, declaration_nodes, clauses_of}
 use Rattle.rw_tree.specs.Patterns.{Pattern}
@@ -21,10 +21,6 @@ abbrev pub AreSame : List ℕ → List Group → List (List PatternRow) → Type
 AreSame counts [] [] = Unit {0}
 AreSame counts (g ∷ gs) (r ∷ rs) = (g.rows ≡ flat_map (counted_of counts) r) × AreSame counts gs rs
 AreSame counts _ _ = ⊥
-
-append_none : {X : Type 0} (xs : List X) → (xs ++ []) ≡ xs
-append_none [] = refl
-append_none (x ∷ xs) = ap (λ ys. x ∷ ys) (append_none xs)
 
 module _ (counts : List ℕ) where
   same_behind : (gs hs : List Group) (rs ss : List (List PatternRow)) → AreSame counts gs rs → AreSame counts hs ss → AreSame counts (gs ++ hs) (rs ++ ss)
@@ -48,8 +44,8 @@ module _ (counts : List ℕ) where
 
     same_row : (c : Alternative Bound) → counted_row counts known c ≡ flat_map (counted_of counts) (pattern_row known c)
     same_row (alternative a pats side wheres) =
-        sym (append_none (if is_total known side then matrix_row counts pats ∷ [] else [])) ∙ same_side pats side [] [] refl
-        ∙ ap (flat_map (counted_of counts)) (append_none (if has_body side then row_with known pats side ∷ [] else []))
+        sym (append-nil (if is_total known side then matrix_row counts pats ∷ [] else [])) ∙ same_side pats side [] [] refl
+        ∙ ap (flat_map (counted_of counts)) (append-nil (if has_body side then row_with known pats side ∷ [] else []))
 
     same_clauses : (cs : List (Alternative Bound)) → AreSame counts (clauses_group counts known cs) (clauses_rows known cs)
     same_clauses [] = tt

@@ -11,11 +11,11 @@ use Rattle.rw_types_rules.specs.Relabelled.{relabelled_parts}
 use Rattle.rw_types_rules.specs.Schemes.{Scheme, World, scheme_at}
 use Rattle.rw_types_rules.specs.TypedTrees.{TypedNode, pattern_type, parts_types, row_types}
 use Rattle.rw_types_rules.specs.WellTyped.{given, IsMatched, PatternAgrees, PartsAgree, RowAgrees}
-use Rattle.rw_cover_matrix.specs.Values.{Shape, opaque, data_of, Shapes, no_shapes, more_shapes, Choices, one_choice, more_choices, choices_count, fields_of}
+use Rattle.rw_cover_matrix.specs.Values.{Shape, opaque, data_of, Shapes, no_shapes, more_shapes, one_choice, more_choices, choices_count, fields_of}
 use Rattle.rw_cover_laws.specs.Shapes.{fields_in, HasShape, HaveShapes, HaveChoices, IsWorld}
 use Rattle.rw_cover_laws.specs.Columns.{arguments_of}
 use Rattle.rw_cover_laws.proofs.Stands.{listed-tys, applied_data, choice_at, slice_get-map}
-use Rattle.rw_meaning_matching.specs.Exact.{IsConstructorAt, NamesConstructors, PartsNameConstructors, IsExactly, AreExactly, IsExactRow, erased_pattern, erased_row}
+use Rattle.rw_meaning_matching.specs.Exact.{IsConstructorAt, MayNameConstructor, NamesConstructors, PartsNameConstructors, IsExactly, AreExactly, IsExactRow, erased_pattern, erased_row}
 
 -- what `IsExactly` says of a constructor's pattern, and of a tuple's
 abbrev BuiltExactly : Option Binding → Patterns Bound → Shape → Type 0
@@ -53,12 +53,12 @@ module _ (world : World) (counts : List ℕ) (is : IsWorld world counts) (variab
       exact_at n place scheme arguments types parts found h.1 fit shape
       (subst (λ (t : Ty). Has shape t) (h.2 ∙ ap (apply (given arguments)) (is.gives n place scheme found) ∙ applied_data n scheme.kinds arguments h.0) s)
 
-  built_exact : (bound : Option Binding) (arguments types : List Ty) (type : Ty) (parts : Patterns Bound) → IsMatched (scheme_at world bound) arguments types type → IsConstructorAt bound (λ place. Unit {0})
+  built_exact : (bound : Option Binding) (arguments types : List Ty) (type : Ty) (parts : Patterns Bound) → IsMatched (scheme_at world bound) arguments types type → MayNameConstructor bound
       → ((columns : Shapes) → Have columns types → AreExactly parts columns) → (shape : Shape) → Has shape type → BuiltExactly bound parts shape
-  built_exact None arguments types type parts h names fit shape s = absurd names
+  built_exact None arguments types type parts h names fit shape s = absurd h
   built_exact (Some (Declared n)) arguments types type parts h names fit shape s = absurd names
   built_exact (Some (Operates o)) arguments types type parts h names fit shape s = absurd names
-  built_exact (Some (Local k)) arguments types type parts h names fit shape s = absurd names
+  built_exact (Some (Local k)) arguments types type parts h names fit shape s = absurd h
   built_exact (Some (Constructs n place)) arguments types type parts h names fit shape s =
       matched_exact n place (slice_get (get_or world.constructed n []) place) arguments types type parts refl h fit shape s
 

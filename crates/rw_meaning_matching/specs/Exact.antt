@@ -1,6 +1,6 @@
 -- Patterns that fit a shape exactly, part by part, as typing has them (Haskell 2010 Report, section 3.17.1: a constructor pattern has
 -- as many parts as the constructor has fields).
-use Rattle.std.specs.Prelude.{ℕ, ◌<◌, List, [], ◌∷◌, Option, Some}
+use Rattle.std.specs.Prelude.{ℕ, ◌<◌, List, [], ◌∷◌, Option, Some, None}
 use Rattle.rw_scope_rules.specs.declared.binding.Binding.{Binding}
 use Rattle.rw_scope_rules.specs.declared.binding.Binding.TheVariants.{Constructor as Constructs}
 use Rattle.rw_scope_rules.specs.declared.binding.Bound.{Bound}
@@ -14,12 +14,19 @@ abbrev pub IsConstructorAt : Option Binding → (ℕ → Type 0) → Type 0
 IsConstructorAt (Some (Constructs n place)) P = P place
 IsConstructorAt _ P = ⊥
 
--- in a pattern, each name of a constructor is bound to a constructor
+-- a name is bound to a constructor, if to anything
+abbrev pub MayNameConstructor : Option Binding → Type 0
+MayNameConstructor None = Unit {0}
+MayNameConstructor (Some (Constructs n place)) = Unit {0}
+MayNameConstructor _ = ⊥
+
+-- in a pattern, each name of a constructor is bound to a constructor, if to anything, as `bound_program` binds it. A typed pattern has no name that is
+-- bound to nothing
 abbrev mutual
   pub NamesConstructors : Pattern Bound → Type 0
   NamesConstructors (wildcard a) = Unit {0}
   NamesConstructors (variable_pattern a x) = Unit {0}
-  NamesConstructors (constructor_pattern a c parts) = IsConstructorAt a.bound (λ place. Unit {0}) × PartsNameConstructors parts
+  NamesConstructors (constructor_pattern a c parts) = MayNameConstructor a.bound × PartsNameConstructors parts
   NamesConstructors (tuple_pattern a parts) = PartsNameConstructors parts
 
   pub PartsNameConstructors : Patterns Bound → Type 0

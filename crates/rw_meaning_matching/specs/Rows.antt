@@ -64,7 +64,7 @@ module _ (known : Known) where
 abbrev pub rows_of : PlainProgram Bound → List (List PatternRow)
 rows_of program = flat_map (declaration_rows (known_of program.declarations)) program.declarations
 
--- in a row the names of constructors are bound to constructors, as scoping binds them; and in each row of each group
+-- in a row the names of constructors are bound to constructors, if to anything; and in each row of each group
 abbrev pub RowNamesConstructors : PatternRow → Type 0
 RowNamesConstructors r = AllByRecursion NamesConstructors r.patterns
 
@@ -74,12 +74,12 @@ AllNameConstructors groups = AllByRecursion (AllByRecursion RowNamesConstructors
 -- == At the types of the columns ==
 
 -- groups of rows, each with the types of its columns: at every closed instance of these types the rows fit exactly, if their names of
--- constructors are bound to constructors
+-- constructors are bound to nothing else
 abbrev pub FitExactly : World → List (List PatternRow) → List (List Ty) → Type 0
 FitExactly world [] [] = Unit {0}
 FitExactly world (rows ∷ groups) (types ∷ rest) =
     ((variables unknowns : ℕ → Shape) (columns : Shapes) → HaveShapes (fields_in world) variables unknowns columns types
-        → AllByRecursion (λ r. RowNamesConstructors r → IsExactRow r.patterns columns) rows) × FitExactly world groups rest
+    → AllByRecursion (λ r. RowNamesConstructors r → IsExactRow r.patterns columns) rows) × FitExactly world groups rest
 FitExactly world _ _ = ⊥
 
 -- this holds, unless the test does

@@ -3,8 +3,9 @@ ghost use Rattle.std.specs.Prelude.{◌≡◌, ℕ, List, length};
 ghost use Rattle.std.specs.List.{AllByRecursion};
 ghost use Rattle.rw_base.specs.declared.place.Span.{Span};
 ghost use Rattle.rw_scope_rules.specs.declared.binding.Bound.{Bound};
+ghost use Rattle.rw_scope_rules.specs.Bindings.{bound_program};
 ghost use Rattle.rw_tree.specs.Patterns.{Pattern};
-ghost use Rattle.rw_tree.specs.Declarations.{Declaration};
+ghost use Rattle.rw_tree.specs.Declarations.{Declaration, PlainProgram};
 ghost use Rattle.rw_core.specs.Values.{Val};
 ghost use Rattle.rw_types_rules.specs.Schemes.{world_of};
 ghost use Rattle.rw_types_rules.specs.TypedTrees.{TypedNode, pattern_type, row_types};
@@ -16,6 +17,7 @@ ghost use Rattle.rw_cover.specs.Coverage.{groups_of};
 ghost use Rattle.rw_cover.specs.Correct.{IsCovered};
 ghost use Rattle.rw_cover_laws.specs.Shapes.{fields_in, HasShape, HaveShapes};
 ghost use Rattle.rw_cover_laws.specs.Columns.{columns_of, untyped, world_in};
+ghost use Rattle.rw_cover_laws.specs.Typed.{AreTypingsOf};
 ghost use Rattle.rw_meaning.specs.Results.{Thunk, Thunks, how_many};
 ghost use Rattle.rw_meaning.specs.Steps.{Stands};
 ghost use Rattle.rw_meaning_matching.specs.Standing.{matrix_value, StandsFor, StandForEach, AreFirstValues};
@@ -43,7 +45,7 @@ pub fn rows_are_matched()
 {}
 
 /// A typed pattern fits the shape of its type exactly, at every closed instance, and so does a row of them the shapes of its types,
-/// if the names of constructors are bound to constructors.
+/// if names of constructors are bound to nothing but constructors, as `bound_program` binds them.
 pub fn typed_patterns_are_exact()
     ensures pattern { (decls : List (Declaration Span)) (p : Pattern TypedNode) → PatternAgrees (world_of decls) p → NamesConstructors (erased_pattern p) → (variables unknowns : ℕ → Shape) (shape : Shape) → HasShape (fields_in (world_of decls)) variables unknowns shape (pattern_type p) → IsExactly (erased_pattern p) shape }
     ensures row { (decls : List (Declaration Span)) (pats : List (Pattern TypedNode)) → RowAgrees (world_of decls) pats → AllByRecursion NamesConstructors (erased_row pats) → (variables unknowns : ℕ → Shape) (columns : Shapes) → HaveShapes (fields_in (world_of decls)) variables unknowns columns (row_types pats) → IsExactRow (erased_row pats) columns }
@@ -58,5 +60,6 @@ pub fn typed_rows_are_exact()
 /// So where they cover, as the Ok of `cover` of `rw_cover` says, some row takes all that stands for values of the columns' types, at
 /// every closed instance, and the rows before it are passed over.
 pub fn covered_rows_take_each_value()
-    ensures { (program : List (Declaration Bound)) (typed : List (Declaration TypedNode)) → AllByRecursion (DeclarationAgrees (world_in typed)) typed → AllNameConstructors (rows_of (untyped typed)) → AllByRecursion IsCovered (groups_of (untyped typed)) → AllTakeEach program (world_in typed) (rows_of (untyped typed)) (columns_of typed) }
+    ensures agreeing { (program : List (Declaration Bound)) (typed : List (Declaration TypedNode)) → AllByRecursion (DeclarationAgrees (world_in typed)) typed → AllNameConstructors (rows_of (untyped typed)) → AllByRecursion IsCovered (groups_of (untyped typed)) → AllTakeEach program (world_in typed) (rows_of (untyped typed)) (columns_of typed) }
+    ensures typings { (program : List (Declaration Bound)) (source : PlainProgram Span) (typed : List (Declaration TypedNode)) → AreTypingsOf source typed → AllByRecursion IsCovered (groups_of (bound_program source)) → AllTakeEach program (world_of source.declarations) (rows_of (bound_program source)) (columns_of typed) }
 {}
