@@ -21,7 +21,7 @@ use Rattle.rw_cover_laws.specs.Shapes.{fields_in, HaveShapes, IsWorld}
 use Rattle.rw_cover_laws.specs.Columns.{arguments_of, clauses_columns, node_columns, declaration_columns}
 use Rattle.rw_meaning_matching.specs.Exact.{NamesConstructors, IsExactRow, erased_row}
 use Rattle.rw_meaning_matching.specs.Rows.{PatternRow, has_body, row_with, RowNamesConstructors, pattern_rows, clauses_rows, node_rows, declaration_rows, FitExactly}
-use Rattle.rw_meaning_matching.proofs.Typed.{row_exact, first_exact}
+use Rattle.rw_meaning_matching.proofs.Typed.{arguments_first, row_exact, first_exact}
 
 -- a row, and each of some rows, if its names of constructors are bound to constructors
 abbrev RowFits : List (Pattern Bound) → Shapes → Type 0
@@ -75,8 +75,12 @@ module _ (world : World) (counts : List ℕ) (is : IsWorld world counts) (known 
   clause_row variables unknowns locals type pats side rest columns row agrees have others =
       elim (has_body (relabelled_side (λ (a : TypedNode). a.node) side)) as (λ b. has_body (relabelled_side (λ (a : TypedNode). a.node) side) ≡ b → RowsFit ((if b then row_with known (erased_row pats) (relabelled_side (λ (a : TypedNode). a.node) side) ∷ [] else []) ++ rest) columns) [
         | true ↦ (λ e.
-            let t = side_type locals (row_types pats) type side agrees e in
-            ((λ names. first_exact world counts is variables unknowns pats t.0 row names columns (subst (λ (ty : Ty). HaveShapes (fields_in world) variables unknowns columns (arguments_of ty)) t.1 have)), others))
+            let t = side_type locals (row_types pats) type side agrees e in (
+              (λ names. first_exact world counts is variables unknowns pats (arguments_of t.0) row names columns
+                  (subst (λ (ts : List Ty). HaveShapes (fields_in world) variables unknowns columns ts) (arguments_first (row_types pats) t.0)
+                  (subst (λ (ty : Ty). HaveShapes (fields_in world) variables unknowns columns (arguments_of ty)) t.1 have))),
+              others,
+            ))
         | false ↦ (λ e. others)
       ] refl
 

@@ -3,6 +3,7 @@ mod Standing
 mod Going
 mod Matches
 mod Typed
+mod Seen
 mod Fitting
 mod Same
 mod Bound

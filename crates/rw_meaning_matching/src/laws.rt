@@ -1,5 +1,5 @@
 // Laws of the definitions: each is the contract of a function that does nothing.
-ghost use Rattle.std.specs.Prelude.{◌≡◌, ℕ, List, length};
+ghost use Rattle.std.specs.Prelude.{◌≡◌, ◌++◌, ℕ, List, length, true};
 ghost use Rattle.std.specs.List.{AllByRecursion};
 ghost use Rattle.rw_base.specs.declared.place.Span.{Span};
 ghost use Rattle.rw_scope_rules.specs.declared.binding.Bound.{Bound};
@@ -7,10 +7,11 @@ ghost use Rattle.rw_scope_rules.specs.Bindings.{bound_program};
 ghost use Rattle.rw_tree.specs.Patterns.{Pattern};
 ghost use Rattle.rw_tree.specs.Declarations.{Declaration, PlainProgram};
 ghost use Rattle.rw_core.specs.Values.{Val};
+ghost use Rattle.rw_types_solving.specs.Types.{Ty};
 ghost use Rattle.rw_types_rules.specs.Schemes.{world_of};
-ghost use Rattle.rw_types_rules.specs.TypedTrees.{TypedNode, pattern_type, row_types};
+ghost use Rattle.rw_types_rules.specs.TypedTrees.{TypedNode, pattern_type, row_types, pattern_locals, row_locals};
 ghost use Rattle.rw_types_rules.specs.WellTyped.{PatternAgrees, RowAgrees, DeclarationAgrees};
-ghost use Rattle.rw_cover_matrix.specs.Values.{Shape, Shapes, Value, Values, IsValue};
+ghost use Rattle.rw_cover_matrix.specs.Values.{Shape, Shapes, Value, Values, IsValue, AreValues};
 ghost use Rattle.rw_cover_matrix.specs.Matching.{matches, row_matches};
 ghost use Rattle.rw_cover.specs.Rows.{matrix_pattern, matrix_row};
 ghost use Rattle.rw_cover.specs.Coverage.{groups_of};
@@ -44,11 +45,18 @@ pub fn rows_are_matched()
     ensures { (program : List (Declaration Bound)) (counts : List ℕ) (pats : List (Pattern Bound)) (columns : Shapes) (given : Values) (ts : Thunks) → IsExactRow pats columns → AreFirstValues given columns → length pats ≡ how_many ts → StandForEach program ts given → GoesAs program (row_matches (matrix_row counts pats) given) (row_matched program pats ts) (seen_by_row pats given) }
 {}
 
-/// A typed pattern fits the shape of its type exactly, at every closed instance, and so does a row of them the shapes of its types,
+/// A typed pattern fits the shape of its type exactly, at every closed instance, and so does a row of them the first of some columns,
 /// if names of constructors are bound to nothing but constructors, as `bound_program` binds them.
 pub fn typed_patterns_are_exact()
     ensures pattern { (decls : List (Declaration Span)) (p : Pattern TypedNode) → PatternAgrees (world_of decls) p → NamesConstructors (erased_pattern p) → (variables unknowns : ℕ → Shape) (shape : Shape) → HasShape (fields_in (world_of decls)) variables unknowns shape (pattern_type p) → IsExactly (erased_pattern p) shape }
-    ensures row { (decls : List (Declaration Span)) (pats : List (Pattern TypedNode)) → RowAgrees (world_of decls) pats → AllByRecursion NamesConstructors (erased_row pats) → (variables unknowns : ℕ → Shape) (columns : Shapes) → HaveShapes (fields_in (world_of decls)) variables unknowns columns (row_types pats) → IsExactRow (erased_row pats) columns }
+    ensures row { (decls : List (Declaration Span)) (pats : List (Pattern TypedNode)) (others : List Ty) → RowAgrees (world_of decls) pats → AllByRecursion NamesConstructors (erased_row pats) → (variables unknowns : ℕ → Shape) (columns : Shapes) → HaveShapes (fields_in (world_of decls)) variables unknowns columns (row_types pats ++ others) → IsExactRow (erased_row pats) columns }
+{}
+
+/// Where a value of the shape of its type matches a typed pattern, the variables of the pattern see values of the shapes of their
+/// types, in the order of the local names that it binds; so do those of a row.
+pub fn variables_see_values()
+    ensures pattern { (decls : List (Declaration Span)) (counts : List ℕ) (p : Pattern TypedNode) → PatternAgrees (world_of decls) p → NamesConstructors (erased_pattern p) → (variables unknowns : ℕ → Shape) (shape : Shape) → HasShape (fields_in (world_of decls)) variables unknowns shape (pattern_type p) → (v : Value) → IsValue v shape → matches (matrix_pattern counts (erased_pattern p)) v ≡ true → (seen : Shapes) × HaveShapes (fields_in (world_of decls)) variables unknowns seen (pattern_locals p) × AreValues (seen_by (erased_pattern p) v) seen }
+    ensures row { (decls : List (Declaration Span)) (counts : List ℕ) (pats : List (Pattern TypedNode)) (others : List Ty) → RowAgrees (world_of decls) pats → AllByRecursion NamesConstructors (erased_row pats) → (variables unknowns : ℕ → Shape) (columns : Shapes) → HaveShapes (fields_in (world_of decls)) variables unknowns columns (row_types pats ++ others) → (given : Values) → AreFirstValues given columns → row_matches (matrix_row counts (erased_row pats)) given ≡ true → (seen : Shapes) × HaveShapes (fields_in (world_of decls)) variables unknowns seen (row_locals pats) × AreValues (seen_by_row (erased_row pats) given) seen }
 {}
 
 /// The rows that have to cover in typed declarations, whose types agree, fit the types of their columns in the tree exactly, at every

@@ -10,5 +10,5 @@ mod laws;
 
 pub use laws::{
     covered_rows_take_each_value, patterns_are_matched, rows_are_matched, typed_patterns_are_exact,
-    typed_rows_are_exact, values_are_embedded,
+    typed_rows_are_exact, values_are_embedded, variables_see_values,
 };
