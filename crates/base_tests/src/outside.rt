@@ -94,21 +94,38 @@ fn files_are_saved_and_loaded(rt: HostRuntime) -> Result<(), Fail> {
     Ok(())
 }
 
+// The first bytes of these, at most so many.
+fn first(bytes: &[u8], most: usize) -> &[u8] {
+    if most < bytes.len() {
+        &bytes[..most]
+    } else {
+        bytes
+    }
+}
+
+// Loads at most so many bytes of a file that holds these, and compares.
+fn loads_first(rt: &HostRuntime, bytes: &[u8], most: usize) -> Result<bool, Fail> {
+    let mut store = FileStore::new(rt);
+    let found = store
+        .load(rt.alloc(), "rw_base_pieces.txt", most)
+        .map_err(|_| "fault")?;
+    Ok(found.as_slice() == first(bytes, most))
+}
+
 #[test]
 fn a_file_of_many_pieces_is_loaded_whole(rt: HostRuntime) -> Result<(), Fail> {
-    let alloc = rt.alloc();
-    let mut bytes = Vec::new(alloc);
+    let mut bytes = Vec::new(rt.alloc());
     for i in 0..10_000_usize {
         bytes.push((i % 251) as u8)?;
     }
     let mut store = FileStore::new(&rt);
     assert!(rt; store.save("rw_base_pieces.txt", &bytes).is_ok());
-    for most in [4095, 4096, 4097, 8192, 9999, 10_000, 10_001] {
-        let found = store
-            .load(alloc, "rw_base_pieces.txt", most)
-            .map_err(|_| "fault")?;
-        assert_eq!(rt; found.as_slice(), &bytes[..most.min(10_000)]);
-    }
+    assert!(rt; loads_first(&rt, &bytes, 4095)?);
+    assert!(rt; loads_first(&rt, &bytes, 4096)?);
+    assert!(rt; loads_first(&rt, &bytes, 4097)?);
+    assert!(rt; loads_first(&rt, &bytes, 9999)?);
+    assert!(rt; loads_first(&rt, &bytes, 10_000)?);
+    assert!(rt; loads_first(&rt, &bytes, 10_001)?);
     Ok(())
 }
 

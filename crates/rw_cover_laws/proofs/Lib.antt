@@ -4,8 +4,8 @@ mod Founded
 mod Unfolding
 mod Shaped
 mod Alone
-mod Stands
-mod Worlds
-mod Columns
-mod Programs
-mod Typable
+pub mod Stands
+pub mod Worlds
+pub mod Columns
+pub mod Programs
+pub mod Typable

@@ -19,7 +19,7 @@ use Rattle.rw_cover_matrix.specs.Matching.{PlainPattern, PlainPatterns, construc
 use Rattle.rw_cover.specs.Rows.{built_by, matrix_pattern, matrix_parts, matrix_row, is_total, counted_rows}
 use Rattle.rw_cover_laws.specs.Shapes.{fields_in, listed, HasShape, HaveShapes, HaveChoices, IsWorld, HasRow}
 
-listed-tys : (ts : List Ty) → listed (tys ts) ≡ ts
+pub listed-tys : (ts : List Ty) → listed (tys ts) ≡ ts
 listed-tys [] = refl
 listed-tys (t ∷ ts) = ap (λ (us : List Ty). t ∷ us) (listed-tys ts)
 
@@ -37,7 +37,7 @@ given_from n all (k ∷ kinds) (t ∷ ts) e f =
     ap (λ (u : Ty). more u (apply_in (given all) (tys (variables_from (suc n) kinds)))) here ∙ ap (more t) rest
 
 -- a data type at its arguments
-applied_data : (n : ℕ) (kinds : List VariableKind) (arguments : List Ty) → length arguments ≡ length kinds → apply (given arguments) (data_type n (variables_from 0 kinds)) ≡ data_type n arguments
+pub applied_data : (n : ℕ) (kinds : List VariableKind) (arguments : List Ty) → length arguments ≡ length kinds → apply (given arguments) (data_type n (variables_from 0 kinds)) ≡ data_type n arguments
 applied_data n kinds arguments e = ap (app (h.Data n)) (given_from 0 arguments kinds arguments e (λ k. ap (given arguments) (let z : 0 + k ≡ k = omega arith in z)))
 
 module _ (fields : ℕ → List (List Ty)) (variables unknowns : ℕ → Shape) where
@@ -49,7 +49,7 @@ module _ (fields : ℕ → List (List Ty)) (variables unknowns : ℕ → Shape) 
   choices_of (more_choices columns others) arguments [] h = absurd h
   choices_of (more_choices columns others) arguments (takes ∷ rest) h = ap suc (choices_of others arguments rest h.1)
 
-  choice_at : (choices : Choices) (arguments : List Ty) (all : List (List Ty)) (place : ℕ) (takes : List Ty) → HaveChoices fields variables unknowns choices arguments all → slice_get all place ≡ Some takes
+  pub choice_at : (choices : Choices) (arguments : List Ty) (all : List (List Ty)) (place : ℕ) (takes : List Ty) → HaveChoices fields variables unknowns choices arguments all → slice_get all place ≡ Some takes
       → (place < choices_count choices) × HaveShapes fields variables unknowns (fields_of place choices) (map (apply (given arguments)) takes)
   choice_at (one_choice columns) arguments [] place takes h e = absurd h
   choice_at (one_choice columns) arguments (first ∷ []) zero takes h e = (omega arith, subst (λ (ts : List Ty). HaveShapes fields variables unknowns columns (map (apply (given arguments)) ts)) (let f : first ≡ takes = cc in f) h)
@@ -63,7 +63,7 @@ module _ (fields : ℕ → List (List Ty)) (variables unknowns : ℕ → Shape) 
       let within = r.0 in
       (omega arith, r.1)
 
-slice_get-map : {X Y : Type 0} (f : X → Y) (xs : List X) (i : ℕ) (x : X) → slice_get xs i ≡ Some x → slice_get (map f xs) i ≡ Some (f x)
+pub slice_get-map : {X Y : Type 0} (f : X → Y) (xs : List X) (i : ℕ) (x : X) → slice_get xs i ≡ Some x → slice_get (map f xs) i ≡ Some (f x)
 slice_get-map f [] i x e = absurd (cc)
 slice_get-map f (y ∷ ys) zero x e = ap (λ z. Some (f z)) (let g : y ≡ x = cc in g)
 slice_get-map f (y ∷ ys) (suc i) x e = slice_get-map f ys i x e

@@ -63,7 +63,7 @@ bound_counts tops n (fixity_declaration a side strength names ∷ ds) = ap (λ (
 bound_counts tops n (signature_declaration a names type ∷ ds) = ap (λ (ns : List ℕ). 0 ∷ ns) (bound_counts tops (suc n) ds)
 bound_counts tops n (function_declaration a x clauses ∷ ds) = ap (λ (ns : List ℕ). 0 ∷ ns) (bound_counts tops (suc n) ds)
 
-bound_world_is : (program : PlainProgram Span) → IsWorld (world_of program.declarations) (counts_of (bound_program program).declarations)
+pub bound_world_is : (program : PlainProgram Span) → IsWorld (world_of program.declarations) (counts_of (bound_program program).declarations)
 bound_world_is program = subst (IsWorld (world_of program.declarations)) (sym (bound_counts (tops_of program.declarations) 0 program.declarations)) (world_is program.declarations)
 
 pub typable_types : (program : PlainProgram Span) → recursive_or_empty program ≡ [] → IsTypableProgram program → AllHaveTypes (groups_of (bound_program program))
