@@ -61,19 +61,19 @@ module _ (world : World) (f : Ty → Ty) (k : IsKeeping world f) where
   is_lambda pats body type h = is_function (row_types pats) type body h ∙ ap (λ z. functions z (expression_type (relabelled_expression kept body))) (sym (row_types_kept f pats))
 
   -- the local names of a clause, and of a group
-  clause_locals : (locals : List Ty) (pats : List (Pattern TypedNode)) (wheres : LocalBindings TypedNode)
+  pub clause_locals : (locals : List Ty) (pats : List (Pattern TypedNode)) (wheres : LocalBindings TypedNode)
       → map f ((locals ++ row_locals pats) ++ group_locals wheres) ≡ (map f locals ++ row_locals (relabelled_row kept pats)) ++ group_locals (relabelled_group kept wheres)
   clause_locals locals pats wheres =
       bound_more f (locals ++ row_locals pats) (group_locals wheres) _ (group_locals_kept f wheres)
       ∙ ap (λ z. z ++ group_locals (relabelled_group kept wheres)) (bound_more f locals (row_locals pats) _ (row_locals_kept f pats))
 
-  row_bound : (locals : List Ty) (pats : List (Pattern TypedNode)) → map f (locals ++ row_locals pats) ≡ map f locals ++ row_locals (relabelled_row kept pats)
+  pub row_bound : (locals : List Ty) (pats : List (Pattern TypedNode)) → map f (locals ++ row_locals pats) ≡ map f locals ++ row_locals (relabelled_row kept pats)
   row_bound locals pats = bound_more f locals (row_locals pats) _ (row_locals_kept f pats)
 
-  group_bound : (locals : List Ty) (bs : LocalBindings TypedNode) → map f (locals ++ group_locals bs) ≡ map f locals ++ group_locals (relabelled_group kept bs)
+  pub group_bound : (locals : List Ty) (bs : LocalBindings TypedNode) → map f (locals ++ group_locals bs) ≡ map f locals ++ group_locals (relabelled_group kept bs)
   group_bound locals bs = bound_more f locals (group_locals bs) _ (group_locals_kept f bs)
 
-  statement_bound : (locals : List Ty) (s : Statement TypedNode) → map f (locals ++ statement_locals s) ≡ map f locals ++ statement_locals (relabelled_statement kept s)
+  pub statement_bound : (locals : List Ty) (s : Statement TypedNode) → map f (locals ++ statement_locals s) ≡ map f locals ++ statement_locals (relabelled_statement kept s)
   statement_bound locals s = bound_more f locals (statement_locals s) _ (statement_locals_kept f s)
 
   -- expressions

@@ -24,14 +24,14 @@ module _ (s : ℕ → Ty) where
   given_applied (a ∷ arguments) zero = refl
   given_applied (a ∷ arguments) (suc x) = given_applied arguments x
 
-  instance_applied : (arguments : List Ty) (t : Ty) → apply s (apply (given arguments) t) ≡ apply (given (map (apply s) arguments)) t
+  pub instance_applied : (arguments : List Ty) (t : Ty) → apply s (apply (given arguments) t) ≡ apply (given (map (apply s) arguments)) t
   instance_applied arguments t = compose s (given arguments) t ∙ alike_all _ _ t (given_applied arguments)
 
-  instances_applied : (arguments ts : List Ty) → map (apply s) (map (apply (given arguments)) ts) ≡ map (apply (given (map (apply s) arguments))) ts
+  pub instances_applied : (arguments ts : List Ty) → map (apply s) (map (apply (given arguments)) ts) ≡ map (apply (given (map (apply s) arguments))) ts
   instances_applied arguments [] = refl
   instances_applied arguments (t ∷ ts) = λ i. instance_applied arguments t i ∷ instances_applied arguments ts i
 
-  keeping : (world : World) → IsKeeping world (apply s)
+  pub keeping : (world : World) → IsKeeping world (apply s)
   keeping world = record {
     heads = λ h ts e. ap (app h) (each_applied ts);
     takes = λ b scheme e arguments. instances_applied arguments scheme.takes;

@@ -1,0 +1,4 @@
+-- Lemmas.
+pub mod Stages
+pub mod Reading
+pub mod Judging

@@ -1,0 +1,1 @@
+-- No words of its own: the law cites those of rw_types_rules.
