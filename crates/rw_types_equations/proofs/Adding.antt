@@ -1,11 +1,11 @@
 -- Adding equations, one after the other.
 use Rattle.std.proofs.Common.{◌≡◌, ◌↔◌, ℕ, List, [], ◌∷◌, ◌++◌, refl, sym, ◌∙◌, ap, subst, Result, Ok, Err, IfOk}
 use Rattle.rw_types_solving.specs.declared.term.Head.TheVariants as h
-use Rattle.rw_types_solving.specs.Types.{Ty, var, none, more, apply, plain}
+use Rattle.rw_types_solving.specs.Types.{Ty, var, none, more, apply}
 use Rattle.rw_types_solving.proofs.Laws.{itself, endless}
 use Rattle.rw_types_rules.specs.Words.{function}
 use Rattle.rw_types_equations.specs.declared.equation.Equation.{Equation}
-use Rattle.rw_types_equations.specs.Equations.{Holds, Adds}
+use Rattle.rw_types_equations.specs.Equations.{told, Holds, Adds}
 
 holds_before : (t : ℕ → Ty) (es fs : List Equation) → Holds t (es ++ fs) → Holds t es
 holds_before t [] fs h = tt
@@ -20,7 +20,7 @@ holds_both t [] fs h k = k
 holds_both t (e ∷ es) fs h k = (h.0, holds_both t es fs h.1 k)
 
 -- one equation at the end
-pub adds_one : (old new : List Equation) (e : Equation) → new ≡ old ++ e ∷ [] → Adds old new (λ t. t e.variable ≡ apply t (plain e.is))
+pub adds_one : (old new : List Equation) (e : Equation) → new ≡ old ++ e ∷ [] → Adds old new (λ t. t e.variable ≡ apply t (told e))
 adds_one old new e p = record {
   exactly = λ t. (
     (λ h. let k = subst (λ z. Holds t z) p h in (holds_before t old (e ∷ []) k, (holds_after t old (e ∷ []) k).0)),

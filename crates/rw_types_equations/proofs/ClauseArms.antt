@@ -28,7 +28,7 @@ use Rattle.rw_types_equations.specs.declared.numbered.Numbered.{Numbered}
 use Rattle.rw_types_equations.specs.Numbered.{typed_by, argument_numbers}
 use Rattle.rw_types_equations.specs.Equations.{Entered}
 use Rattle.rw_types_equations.proofs.Entering.{entered_types}
-use Rattle.rw_types_equations.proofs.ExprArms.{functions_are, here_expression}
+use Rattle.rw_types_equations.proofs.ExprArms.{here_expression}
 
 -- the form of a clause
 clause_is : (C : Alt Numbered) (qs : List (Pat Numbered)) (ws : List (Local Numbered)) → qs ≡ C.pats → ws ≡ C.wheres
@@ -56,12 +56,12 @@ module _ (w : World) where
         (λ h. let g = subst (λ z. ClauseAgrees w (map t l) z) path h in ((g.0, subst (λ z. SideAgrees w (map t j) z (t C.at.number) (right_side see C.rhs)) (sym from) (subst (λ z. SideAgrees w z (row_types (patterns see qs)) (t C.at.number) (right_side see C.rhs)) (sym outer) g.1)), subst (λ z. GroupAgrees w z group) (sym inner) g.2)),
       )
 
-  pub is_plain_side : (l : List ℕ) (S : Rhs Numbered) (b d : Expr Numbered) (from : List ℕ) (n m : ℕ) (u : Ty) → S ≡ rhs.Plain b → d ≡ b → ((t : ℕ → Ty) → expression_type (expression (typed_by t) d) ≡ t m) → u ≡ functions (map var from) (var m)
-      → (t : ℕ → Ty) → ((t n ≡ apply t u) × ExpressionAgrees w (map t l) (expression (typed_by t) d)) ↔ SideAgrees w (map t l) (map t from) (t n) (right_side (typed_by t) S)
-  is_plain_side l S b d from n m u e p f v t =
+  pub is_plain_side : (l : List ℕ) (S : Rhs Numbered) (b d : Expr Numbered) (from : List ℕ) (n m : ℕ) → S ≡ rhs.Plain b → d ≡ b → ((t : ℕ → Ty) → expression_type (expression (typed_by t) d) ≡ t m)
+      → (t : ℕ → Ty) → ((t n ≡ functions (map t from) (t m)) × ExpressionAgrees w (map t l) (expression (typed_by t) d)) ↔ SideAgrees w (map t l) (map t from) (t n) (right_side (typed_by t) S)
+  is_plain_side l S b d from n m e p f t =
       let see = typed_by t in
       let path : right_side see S ≡ plain_side (expression see d) = ap (right_side see) e ∙ right_side-Plain see b ∙ ap (λ z. plain_side (expression see z)) (sym p) in
-      let c = functions_are t u from from m _ v refl refl ∙ ap (functions (map t from)) (sym (f t)) in (
+      let c = ap (functions (map t from)) (sym (f t)) in (
         (λ h. subst (λ z. SideAgrees w (map t l) (map t from) (t n) z) (sym path) (h.0 ∙ c, h.1)),
         (λ h. let g = subst (λ z. SideAgrees w (map t l) (map t from) (t n) z) path h in (g.0 ∙ sym c, g.1)),
       )
@@ -75,16 +75,16 @@ module _ (w : World) where
         (λ h. subst (λ z. SideAgrees w (map t l) (map t from) (t n) z) path h),
       )
 
-  pub is_body : (l k : List ℕ) (G : Guard Numbered) (from : List ℕ) (n m i : ℕ) (u v : Ty) → k ≡ l
+  pub is_body : (l k : List ℕ) (G : Guard Numbered) (from : List ℕ) (n m i : ℕ) (u : Ty) → k ≡ l
       → ((t : ℕ → Ty) → expression_type (expression (typed_by t) G.test) ≡ t m) → ((t : ℕ → Ty) → expression_type (expression (typed_by t) G.body) ≡ t i)
-      → u ≡ bool_type w → ((t : ℕ → Ty) → apply t (bool_type w) ≡ bool_type w) → v ≡ functions (map var from) (var i)
-      → (t : ℕ → Ty) → ((((t m ≡ apply t u) × (t n ≡ apply t v)) × ExpressionAgrees w (map t l) (expression (typed_by t) G.test)) × ExpressionAgrees w (map t k) (expression (typed_by t) G.body))
+      → u ≡ bool_type w → ((t : ℕ → Ty) → apply t (bool_type w) ≡ bool_type w)
+      → (t : ℕ → Ty) → ((((t m ≡ apply t u) × (t n ≡ functions (map t from) (t i))) × ExpressionAgrees w (map t l) (expression (typed_by t) G.test)) × ExpressionAgrees w (map t k) (expression (typed_by t) G.body))
       ↔ BodyAgrees w (map t l) (map t from) (t n) (guarded (typed_by t) G)
-  is_body l k G from n m i u v o f g p b q t =
+  is_body l k G from n m i u o f g p b t =
       let see = typed_by t in
       let path = guarded-parts see G in
       let c : apply t u ≡ bool_type w = ap (apply t) p ∙ b t in
-      let d = functions_are t v from from i _ q refl refl ∙ ap (functions (map t from)) (sym (g t)) in
+      let d = ap (functions (map t from)) (sym (g t)) in
       let last = here_expression w t k l (expression see G.body) o in (
         (λ h. subst (λ z. BodyAgrees w (map t l) (map t from) (t n) z) (sym path) ((f t ∙ h.0.0.0 ∙ c, h.0.0.1 ∙ d), h.0.1, last.0 h.1)),
         (λ h. let x = subst (λ z. BodyAgrees w (map t l) (map t from) (t n) z) path h in (((sym (f t) ∙ x.0.0 ∙ sym c, x.0.1 ∙ sym d), x.1), last.1 x.2)),

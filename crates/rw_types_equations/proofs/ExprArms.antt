@@ -17,12 +17,12 @@ use Rattle.rw_types_rules.specs.WellTyped.{IsInstance, NameAgrees, RowAgrees, Ex
 use Rattle.rw_types_equations.specs.declared.numbered.Numbered.{Numbered}
 use Rattle.rw_types_equations.specs.Numbered.{typed_by, argument_numbers}
 use Rattle.rw_types_equations.specs.Equations.{Entered}
-use Rattle.rw_types_equations.proofs.Instances.{functions_at, tuple_at}
+use Rattle.rw_types_equations.proofs.Instances.{tuple_at}
 use Rattle.rw_types_equations.proofs.Entering.{entered_types}
 
--- the type of variables as a term, under an assignment
-pub functions_are : (t : ℕ → Ty) (u : Ty) (ms ns : List ℕ) (n : ℕ) (types : List Ty) → u ≡ functions (map var ms) (var n) → ms ≡ ns → types ≡ map t ns → apply t u ≡ functions types (t n)
-functions_are t u ms ns n types e m f = ap (apply t) e ∙ functions_at t ms n ∙ ap (λ z. functions z (t n)) (ap (map t) m ∙ sym f)
+-- the types of variables, under an assignment
+pub functions_are : (t : ℕ → Ty) (ms ns : List ℕ) (n : ℕ) (types : List Ty) → ms ≡ ns → types ≡ map t ns → functions (map t ms) (t n) ≡ functions types (t n)
+functions_are t ms ns n types m f = ap (λ z. functions z (t n)) (ap (map t) m ∙ sym f)
 
 pub tuple_are : (t : ℕ → Ty) (u : Ty) (ms ns : List ℕ) (types : List Ty) → u ≡ tuple_type (map var ms) → ms ≡ ns → types ≡ map t ns → apply t u ≡ tuple_type types
 tuple_are t u ms ns types e m f = ap (apply t) e ∙ tuple_at t ms ∙ ap tuple_type (ap (map t) m ∙ sym f)
@@ -61,17 +61,17 @@ module _ (w : World) where
       let p = ap (expression (typed_by t)) e ∙ expression-Chain (typed_by t) a xs os in
       ((λ h. absurd h), (λ h. from_plain (map t l) _ _ p h))
 
-  pub is_application : (l k : List ℕ) (E : Expr Numbered) (a : Numbered) (h g : Expr Numbered) (xs ys : List (Expr Numbered)) (n : ℕ) (ms ns : List ℕ) (u : Ty)
+  pub is_application : (l k : List ℕ) (E : Expr Numbered) (a : Numbered) (h g : Expr Numbered) (xs ys : List (Expr Numbered)) (n : ℕ) (ms ns : List ℕ)
       → E ≡ expr.Apply a h xs → g ≡ h → ys ≡ xs → k ≡ l → ((t : ℕ → Ty) → expression_type (expression (typed_by t) g) ≡ t n)
-      → ((t : ℕ → Ty) → expressions_types (expression_parts (map (expression (typed_by t)) ys)) ≡ map t ns) → ms ≡ ns → u ≡ functions (map var ms) (var a.number)
-      → (t : ℕ → Ty) → (((t n ≡ apply t u) × ExpressionAgrees w (map t l) (expression (typed_by t) g)) × ExpressionsAgree w (map t k) (expression_parts (map (expression (typed_by t)) ys)))
+      → ((t : ℕ → Ty) → expressions_types (expression_parts (map (expression (typed_by t)) ys)) ≡ map t ns) → ms ≡ ns
+      → (t : ℕ → Ty) → (((t n ≡ functions (map t ms) (t a.number)) × ExpressionAgrees w (map t l) (expression (typed_by t) g)) × ExpressionsAgree w (map t k) (expression_parts (map (expression (typed_by t)) ys)))
       ↔ ExpressionAgrees w (map t l) (expression (typed_by t) E)
-  is_application l k E a h g xs ys n ms ns u e p q r f fs m v t =
+  is_application l k E a h g xs ys n ms ns e p q r f fs m t =
       let see = typed_by t in
       let path : expression see E ≡ application (see a) (expression see g) (expression_parts (map (expression see) ys)) =
       ap (expression see) e ∙ expression-Apply see a h xs ∙ ap (λ z. application (see a) (expression see z) (expression_parts (map (expression see) xs))) (sym p)
       ∙ ap (λ z. application (see a) (expression see g) (expression_parts (map (expression see) z))) (sym q) in
-      let c = functions_are t u ms ns a.number _ v m (fs t) in (
+      let c = functions_are t ms ns a.number _ m (fs t) in (
         (λ x. to_plain (map t l) _ _ path (f t ∙ x.0.0 ∙ c, x.0.1, subst (λ z. ExpressionsAgree w (map t z) (expression_parts (map (expression see) ys))) r x.1)),
         (λ x. let y = from_plain (map t l) _ _ path x in ((sym (f t) ∙ y.0 ∙ sym c, y.1), subst (λ z. ExpressionsAgree w (map t z) (expression_parts (map (expression see) ys))) (sym r) y.2)),
       )
@@ -88,15 +88,15 @@ module _ (w : World) where
         (λ x. let y = from_plain (map t l) _ _ path x in (y.0 ∙ sym c, y.1)),
       )
 
-  pub is_lambda : (l k : List ℕ) (E : Expr Numbered) (a : Numbered) (ps qs : List (Pat Numbered)) (b d : Expr Numbered) (n : ℕ) (ms ns : List ℕ) (u : Ty)
+  pub is_lambda : (l k : List ℕ) (E : Expr Numbered) (a : Numbered) (ps qs : List (Pat Numbered)) (b d : Expr Numbered) (n : ℕ) (ms ns : List ℕ)
       → E ≡ expr.Lambda a ps b → qs ≡ ps → d ≡ b → Entered l k (λ t. row_locals (patterns (typed_by t) qs)) → ((t : ℕ → Ty) → expression_type (expression (typed_by t) d) ≡ t n)
-      → ((t : ℕ → Ty) → row_types (patterns (typed_by t) qs) ≡ map t ns) → ms ≡ ns → u ≡ functions (map var ms) (var n)
-      → (t : ℕ → Ty) → (((t a.number ≡ apply t u) × RowAgrees w (patterns (typed_by t) qs)) × ExpressionAgrees w (map t k) (expression (typed_by t) d)) ↔ ExpressionAgrees w (map t l) (expression (typed_by t) E)
-  is_lambda l k E a ps qs b d n ms ns u e p q r f fs m v t =
+      → ((t : ℕ → Ty) → row_types (patterns (typed_by t) qs) ≡ map t ns) → ms ≡ ns
+      → (t : ℕ → Ty) → (((t a.number ≡ functions (map t ms) (t n)) × RowAgrees w (patterns (typed_by t) qs)) × ExpressionAgrees w (map t k) (expression (typed_by t) d)) ↔ ExpressionAgrees w (map t l) (expression (typed_by t) E)
+  is_lambda l k E a ps qs b d n ms ns e p q r f fs m t =
       let see = typed_by t in
       let path : expression see E ≡ lambda (see a) (patterns see qs) (expression see d) =
       ap (expression see) e ∙ expression-Lambda see a ps b ∙ ap (λ z. lambda (see a) (patterns see z) (expression see b)) (sym p) ∙ ap (λ z. lambda (see a) (patterns see qs) (expression see z)) (sym q) in
-      let c = functions_are t u ms ns n _ v m (fs t) ∙ ap (functions (row_types (patterns see qs))) (sym (f t)) in
+      let c = functions_are t ms ns n _ m (fs t) ∙ ap (functions (row_types (patterns see qs))) (sym (f t)) in
       let i = inside_expression _ _ (expression see d) (entered_types l k (λ t. row_locals (patterns (typed_by t) qs)) r t) in (
         (λ x. to_plain (map t l) _ _ path (x.0.0 ∙ c, x.0.1, i.0 x.1)),
         (λ x. let y = from_plain (map t l) _ _ path x in ((y.0 ∙ sym c, y.1), i.1 y.2)),

@@ -16,10 +16,18 @@ given_at t (n ∷ ns) (suc x) = given_at t ns x
 pub instance_at : (t : ℕ → Ty) (ns : List ℕ) (u : Ty) → apply t (apply (given (map var ns)) u) ≡ apply (given (map t ns)) u
 instance_at t ns u = compose t (given (map var ns)) u ∙ alike_all _ _ u (λ x. given_at t ns x)
 
+-- a function of types under an assignment
+pub functions_under : (t : ℕ → Ty) (xs : List Ty) (y : Ty) → apply t (functions xs y) ≡ functions (map (apply t) xs) (apply t y)
+functions_under t [] y = refl
+functions_under t (x ∷ xs) y = ap (Rattle.rw_types_rules.specs.Words.function (apply t x)) (functions_under t xs y)
+
 -- types of variables
 pub functions_at : (t : ℕ → Ty) (ns : List ℕ) (n : ℕ) → apply t (functions (map var ns) (var n)) ≡ functions (map t ns) (t n)
 functions_at t [] n = refl
 functions_at t (m ∷ ns) n = ap (Rattle.rw_types_rules.specs.Words.function (t m)) (functions_at t ns n)
+
+pub joined_at : (t : ℕ → Ty) (us : List Ty) (ns : List ℕ) (v : Ty) (n : ℕ) → us ≡ map var ns → v ≡ var n → apply t (functions us v) ≡ functions (map t ns) (t n)
+joined_at t us ns v n e f = ap (λ z. apply t (functions z v)) e ∙ ap (λ z. apply t (functions (map var ns) z)) f ∙ functions_at t ns n
 
 tys_at : (t : ℕ → Ty) (ns : List ℕ) → Rattle.rw_types_solving.specs.Types.apply_in t (tys (map var ns)) ≡ tys (map t ns)
 tys_at t [] = refl

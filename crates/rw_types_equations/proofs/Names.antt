@@ -4,17 +4,19 @@ use Rattle.std.proofs.lemmas.List.{length-map}
 use Rattle.std.proofs.Math.ListN.{drop_of_length-le}
 use Rattle.rw_types_solving.specs.declared.term.Term.{Term}
 use Rattle.rw_types_solving.specs.Types.{Ty, var, apply, plain, plains}
+use Rattle.rw_types_rules.specs.Words.{functions}
 use Rattle.rw_types_rules.specs.Schemes.{Scheme, scheme_type}
 use Rattle.rw_types_rules.specs.WellTyped.{given, IsInstance, IsMatched}
 use Rattle.rw_types_equations.specs.declared.numbered.Numbered.{Numbered}
 use Rattle.rw_types_equations.specs.Numbered.{argument_numbers}
-use Rattle.rw_types_equations.proofs.Instances.{instance_at, numbers_length}
+use Rattle.rw_types_equations.proofs.Instances.{instance_at, functions_under, numbers_length}
 
 -- an instance at the arguments of a node
-pub is_instance : (s : Scheme) (a : Numbered) (ns : List ℕ) (u : Ty) → ns ≡ argument_numbers a → a.arguments ≡ length s.kinds → u ≡ apply (given (map var ns)) (scheme_type s)
-    → (t : ℕ → Ty) → (t a.number ≡ apply t u) ↔ IsInstance (Some s) (map t (argument_numbers a)) (t a.number)
-is_instance s a ns u e l p t =
-    let q : apply t u ≡ apply (given (map t (argument_numbers a))) (scheme_type s) = ap (apply t) p ∙ instance_at t ns (scheme_type s) ∙ ap (λ z. apply (given (map t z)) (scheme_type s)) e in
+pub is_instance : (s : Scheme) (a : Numbered) (ns : List ℕ) (ts : List Ty) (g : Ty) → ns ≡ argument_numbers a → a.arguments ≡ length s.kinds → ts ≡ map (apply (given (map var ns))) s.takes → g ≡ apply (given (map var ns)) s.gives
+    → (t : ℕ → Ty) → (t a.number ≡ apply t (functions ts g)) ↔ IsInstance (Some s) (map t (argument_numbers a)) (t a.number)
+is_instance s a ns ts g e l p r t =
+    let whole : functions ts g ≡ apply (given (map var ns)) (scheme_type s) = ap (λ z. functions z g) p ∙ ap (functions (map (apply (given (map var ns))) s.takes)) r ∙ sym (functions_under (given (map var ns)) s.takes s.gives) in
+    let q : apply t (functions ts g) ≡ apply (given (map t (argument_numbers a))) (scheme_type s) = ap (apply t) whole ∙ instance_at t ns (scheme_type s) ∙ ap (λ z. apply (given (map t z)) (scheme_type s)) e in
     ((λ h. (length-map (argument_numbers a) t ∙ numbers_length (suc a.number) a.arguments ∙ l, h ∙ q)), (λ h. h.1 ∙ sym q))
 
 pub as_many_arguments : (t : ℕ → Ty) (a : Numbered) → length (map t (argument_numbers a)) ≡ a.arguments

@@ -7,14 +7,13 @@ ghost use Rattle.rw_types_equations.specs.Numbered.{typed_by};
 ghost use Rattle.rw_types_equations.specs.Seen.{seen_world};
 ghost use Rattle.rw_types_equations.specs.Equations.{Adds};
 
-use crate::equation::equate;
+use crate::equation::{equate, join_function};
 use crate::expr::add_expression;
 use crate::group::{add_group, enter_group};
 use crate::label::{number_of, pattern_numbers};
 use crate::locals::Locals;
 use crate::pattern::{add_row, enter_row};
 use crate::scheme::World;
-use crate::shape::functions_of;
 use crate::written::bool_term;
 use crate::{Equation, Numbered};
 use rw_base::OutOfMemory;
@@ -92,7 +91,7 @@ pub fn add_side(
 {
     match tree {
         Rhs::Plain(body) => {
-            equate(out, number, functions_of(alloc, from, number_of(body))?)?;
+            join_function(alloc, out, number, from, number_of(body))?;
             add_expression(alloc, body, world, locals, out)?;
             Ok(())
         }
@@ -118,11 +117,7 @@ fn add_body(
     ensures locals { OnOk result (locals.new ≡ locals.old) }
 {
     equate(out, number_of(&tree.test), bool_term(alloc, world))?;
-    equate(
-        out,
-        number,
-        functions_of(alloc, from, number_of(&tree.body))?,
-    )?;
+    join_function(alloc, out, number, from, number_of(&tree.body))?;
     add_expression(alloc, &tree.test, world, locals, out)?;
     add_expression(alloc, &tree.body, world, locals, out)?;
     Ok(())

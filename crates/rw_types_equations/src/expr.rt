@@ -7,14 +7,14 @@ ghost use Rattle.rw_types_equations.specs.Seen.{seen_world};
 ghost use Rattle.rw_types_equations.specs.Equations.{Adds};
 
 use crate::clause::add_clauses;
-use crate::equation::{equate, join, never};
+use crate::equation::{equate, join, join_function, never};
 use crate::group::{add_group, enter_group};
 use crate::label::{number_of, numbers_of, pattern_numbers};
 use crate::locals::Locals;
 use crate::name::{add_bound, add_name};
 use crate::pattern::{add_row, enter_row};
 use crate::scheme::World;
-use crate::shape::{function, functions_of, tuple_of};
+use crate::shape::{function, tuple_of};
 use crate::statement::add_statements;
 use crate::written::bool_term;
 use crate::{Equation, Numbered};
@@ -49,11 +49,7 @@ pub fn add_expression(
             let parts = parts.as_slice();
             let head = head.get();
             let numbers = numbers_of(alloc, parts)?;
-            equate(
-                out,
-                number_of(head),
-                functions_of(alloc, numbers.as_slice(), at.number)?,
-            )?;
+            join_function(alloc, out, number_of(head), numbers.as_slice(), at.number)?;
             add_expression(alloc, head, world, locals, out)?;
             add_expressions(alloc, parts, world, locals, out)?;
             Ok(())
@@ -73,11 +69,7 @@ pub fn add_expression(
             let pats = pats.as_slice();
             let body = body.get();
             let numbers = pattern_numbers(alloc, pats)?;
-            equate(
-                out,
-                at.number,
-                functions_of(alloc, numbers.as_slice(), number_of(body))?,
-            )?;
+            join_function(alloc, out, at.number, numbers.as_slice(), number_of(body))?;
             add_row(alloc, world, pats, out)?;
             let outer = locals.depth();
             enter_row(locals, pats)?;

@@ -7,10 +7,10 @@ ghost use Rattle.rw_types_equations.specs.Numbered.{argument_numbers, typed_by};
 ghost use Rattle.rw_types_equations.specs.Seen.{seen_scheme, seen_option, seen_world};
 ghost use Rattle.rw_types_equations.specs.Equations.{Adds};
 
-use crate::equation::{equate, join, never};
+use crate::equation::{equate, equate_function, join, never};
 use crate::locals::Locals;
 use crate::operations::operation_scheme;
-use crate::scheme::{argument_names, instance_type, renewed};
+use crate::scheme::{all_renewed, argument_names, renewed};
 use crate::{Equation, Numbered, Scheme, World};
 use rw_base::OutOfMemory;
 use rw_scope_rules::Binding;
@@ -31,9 +31,11 @@ pub fn add_instance(
         never(alloc, out, at.number)?;
         return Ok(());
     }
-    let names = argument_names(alloc, at)?;
-    let whole = instance_type(alloc, scheme, names.as_slice())?;
-    equate(out, at.number, whole)?;
+    let made = argument_names(alloc, at)?;
+    let names = made.as_slice();
+    let takes = all_renewed(alloc, scheme.takes.as_slice(), names)?;
+    let gives = renewed(alloc, &scheme.gives, names)?;
+    equate_function(out, at.number, takes, gives)?;
     Ok(())
 }
 

@@ -1,13 +1,10 @@
 // The types of names at top level, and their instances.
 ghost use Rattle.std.specs.Prelude.{◌≡◌, IfOk, map};
 ghost use Rattle.rw_types_solving.specs.Types.{plain, var, apply};
-ghost use Rattle.rw_types_rules.specs.Schemes.{scheme_type};
 ghost use Rattle.rw_types_rules.specs.WellTyped.{given};
 ghost use Rattle.rw_types_equations.specs.Numbered.{argument_numbers};
-ghost use Rattle.rw_types_equations.specs.Seen.{seen_scheme};
 
 use crate::Numbered;
-use crate::shape::function;
 use rw_base::{Name, OutOfMemory};
 use rw_types_rules::VariableKind;
 use rw_types_solving::{Head, Term};
@@ -54,8 +51,9 @@ pub fn renewed(alloc: Global, term: &Term, names: &[u32]) -> Result<Term, OutOfM
     }
 }
 
+// The same of each of these types.
 #[cycle(renewing)]
-fn all_renewed(alloc: Global, terms: &[Term], names: &[u32]) -> Result<Items<Term>, OutOfMemory>
+pub fn all_renewed(alloc: Global, terms: &[Term], names: &[u32]) -> Result<Items<Term>, OutOfMemory>
     ensures { IfOk result (λ made. map plain made ≡ map (apply (given (map var names.now))) (map plain terms.now)) }
 {
     let mut all = Items::new(alloc);
@@ -63,19 +61,6 @@ fn all_renewed(alloc: Global, terms: &[Term], names: &[u32]) -> Result<Items<Ter
         all.push(renewed(alloc, term, names)?)?;
     }
     Ok(all)
-}
-
-// The type of a name at these variables.
-pub fn instance_type(alloc: Global, scheme: &Scheme, names: &[u32]) -> Result<Term, OutOfMemory>
-    ensures { IfOk result (λ made. plain made ≡ apply (given (map var names.now)) (scheme_type (seen_scheme scheme.now))) }
-{
-    let takes = scheme.takes.as_slice();
-    let mut whole = renewed(alloc, &scheme.gives, names)?;
-    for done in 0..takes.len() {
-        let last = renewed(alloc, &takes[takes.len() - 1 - done], names)?;
-        whole = function(alloc, last, whole)?;
-    }
-    Ok(whole)
 }
 
 // The numbers of a node's arguments. Numbers have 32 bits: more are want of memory.

@@ -23,16 +23,16 @@ pub expr::add_expression-returns-in_ok-never-in-Chain-clause-agrees : goal.expr:
 expr::add_expression-returns-in_ok-never-in-Chain-clause-agrees t c = adds_as _ _ _ _ c.in_ok-never-in-Chain.ensures (e.is_chain (seen_world c.args.world.now) c.args.locals.now c.args.tree.now _ _ _ c.in-Chain.is)
 
 pub expr::add_expression-returns-in_ok-add_expressions-in-Apply-clause-agrees : goal.expr::add_expression-returns-in_ok-add_expressions-in-Apply-clause-agrees
-expr::add_expression-returns-in_ok-add_expressions-in-Apply-clause-agrees t c = adds_as _ _ _ _ (adds_two _ _ _ _ _ (adds_two _ _ _ _ _ c.in_ok-equate-in-Apply.ensures c.in_ok-add_expression-in-Apply.ensures.agrees) c.in_ok-add_expressions-in-Apply.ensures.agrees)
-    (e.is_application (seen_world c.args.world.now) c.args.locals.now _ c.args.tree.now _ _ _ _ _ _ _ _ _ c.in-Apply.is c.get-head.ensures c.as_slice-parts.ensures c.in_ok-add_expression-in-Apply.ensures.locals c.number_of.ensures c.in_ok-numbers-in-Apply.ensures c.as_slice.ensures c.in_ok-functions_of-in-Apply.ensures)
+expr::add_expression-returns-in_ok-add_expressions-in-Apply-clause-agrees t c = adds_as _ _ _ _ (adds_two _ _ _ _ _ (adds_two _ _ _ _ _ c.in_ok-join_function-in-Apply.ensures c.in_ok-add_expression-in-Apply.ensures.agrees) c.in_ok-add_expressions-in-Apply.ensures.agrees)
+    (e.is_application (seen_world c.args.world.now) c.args.locals.now _ c.args.tree.now _ _ _ _ _ _ _ _ c.in-Apply.is c.get-head.ensures c.as_slice-parts.ensures c.in_ok-add_expression-in-Apply.ensures.locals c.number_of.ensures c.in_ok-numbers-in-Apply.ensures c.as_slice.ensures)
 
 pub expr::add_expression-returns-in_ok-add_expressions-in-Tuple-clause-agrees : goal.expr::add_expression-returns-in_ok-add_expressions-in-Tuple-clause-agrees
 expr::add_expression-returns-in_ok-add_expressions-in-Tuple-clause-agrees t c = adds_as _ _ _ _ (adds_two _ _ _ _ _ c.in_ok-equate-in-Tuple.ensures c.in_ok-add_expressions-in-Tuple.ensures.agrees)
     (e.is_tuple (seen_world c.args.world.now) c.args.locals.now c.args.tree.now _ _ _ _ _ _ c.in-Tuple.is c.as_slice-parts-in-Tuple.ensures c.in_ok-numbers-in-Tuple.ensures c.as_slice-in-Tuple.ensures c.in_ok-tuple_of-in-Tuple.ensures)
 
 pub expr::add_expression-returns-in_ok-add_expression-in-Lambda-clause-agrees : goal.expr::add_expression-returns-in_ok-add_expression-in-Lambda-clause-agrees
-expr::add_expression-returns-in_ok-add_expression-in-Lambda-clause-agrees t c = adds_as _ _ _ _ (adds_two _ _ _ _ _ (adds_two _ _ _ _ _ c.in_ok-equate-in-Lambda.ensures c.in_ok-add_row-in-Lambda.ensures) c.in_ok-add_expression-in-Lambda.ensures.agrees)
-    (e.is_lambda (seen_world c.args.world.now) c.args.locals.now _ c.args.tree.now _ _ _ _ _ _ _ _ _ c.in-Lambda.is c.as_slice-pats.ensures c.get-body.ensures c.in_ok-enter_row-in-Lambda.ensures c.number_of-in-Lambda.ensures c.in_ok-numbers-in-Lambda.ensures c.as_slice-in-Lambda.ensures c.in_ok-functions_of-in-Lambda.ensures)
+expr::add_expression-returns-in_ok-add_expression-in-Lambda-clause-agrees t c = adds_as _ _ _ _ (adds_two _ _ _ _ _ (adds_two _ _ _ _ _ c.in_ok-join_function-in-Lambda.ensures c.in_ok-add_row-in-Lambda.ensures) c.in_ok-add_expression-in-Lambda.ensures.agrees)
+    (e.is_lambda (seen_world c.args.world.now) c.args.locals.now _ c.args.tree.now _ _ _ _ _ _ _ _ c.in-Lambda.is c.as_slice-pats.ensures c.get-body.ensures c.in_ok-enter_row-in-Lambda.ensures c.number_of-in-Lambda.ensures c.in_ok-numbers-in-Lambda.ensures c.as_slice-in-Lambda.ensures)
 
 pub expr::add_expression-returns-in_ok-add_expression-in-Lambda-clause-locals : goal.expr::add_expression-returns-in_ok-add_expression-in-Lambda-clause-locals
 expr::add_expression-returns-in_ok-add_expression-in-Lambda-clause-locals t c = entered_left c.args.locals.now _ _ c.depth-outer.result _ c.in_ok-enter_row-in-Lambda.ensures c.depth-outer.ensures (c.leave.ensures ∙ ap (take c.depth-outer.result) c.in_ok-add_expression-in-Lambda.ensures.locals)
@@ -63,15 +63,15 @@ pub clause::add_clause-returns-clause-locals : goal.clause::add_clause-returns-c
 clause::add_clause-returns-clause-locals t c = longer_left c.args.locals.now _ _ c.depth-outer.result (longer_step _ _ _ _ (longer_step _ _ _ _ (longer_start c.args.locals.now c.args.locals.now refl) c.in_ok-enter_row.ensures) c.in_ok-enter_group.ensures) c.depth-outer.ensures (c.leave.ensures ∙ ap (take c.depth-outer.result) (c.in_ok-add_group.ensures.locals ∙ c.in_ok-add_side.ensures.locals))
 
 pub clause::add_side-returns-in_ok-add_expression-in-Plain-clause-agrees : goal.clause::add_side-returns-in_ok-add_expression-in-Plain-clause-agrees
-clause::add_side-returns-in_ok-add_expression-in-Plain-clause-agrees t c = adds_as _ _ _ _ (adds_two _ _ _ _ _ c.in_ok-equate-in-Plain.ensures c.in_ok-add_expression-in-Plain.ensures.agrees)
-    (k.is_plain_side (seen_world c.args.world.now) c.args.locals.now c.args.tree.now _ _ c.args.from.now c.args.number _ _ c.in-Plain.is refl c.number_of.ensures c.in_ok-functions_of-in-Plain.ensures)
+clause::add_side-returns-in_ok-add_expression-in-Plain-clause-agrees t c = adds_as _ _ _ _ (adds_two _ _ _ _ _ c.in_ok-join_function-in-Plain.ensures c.in_ok-add_expression-in-Plain.ensures.agrees)
+    (k.is_plain_side (seen_world c.args.world.now) c.args.locals.now c.args.tree.now _ _ c.args.from.now c.args.number _ c.in-Plain.is refl c.number_of.ensures)
 
 pub clause::add_side-returns-in_ok-add_bodies-in-Guarded-clause-agrees : goal.clause::add_side-returns-in_ok-add_bodies-in-Guarded-clause-agrees
 clause::add_side-returns-in_ok-add_bodies-in-Guarded-clause-agrees t c = adds_as _ _ _ _ c.in_ok-add_bodies-in-Guarded.ensures.agrees (k.is_guarded_side (seen_world c.args.world.now) c.args.locals.now c.args.tree.now _ _ c.args.from.now c.args.number c.in-Guarded.is c.as_slice.ensures)
 
 pub clause::add_body-returns-clause-agrees : goal.clause::add_body-returns-clause-agrees
-clause::add_body-returns-clause-agrees t c = adds_as _ _ _ _ (adds_two _ _ _ _ _ (adds_two _ _ _ _ _ (adds_two _ _ _ _ _ c.in_ok-equate.ensures c.in_ok-equate-2.ensures) c.in_ok-add_expression.ensures.agrees) c.in_ok-add_expression-2.ensures.agrees)
-    (k.is_body (seen_world c.args.world.now) c.args.locals.now _ c.args.tree.now c.args.from.now c.args.number _ _ _ _ c.in_ok-add_expression.ensures.locals c.number_of.ensures c.number_of-2.ensures c.bool_term.ensures (bool_stays (seen_world c.args.world.now)) c.in_ok-functions_of.ensures)
+clause::add_body-returns-clause-agrees t c = adds_as _ _ _ _ (adds_two _ _ _ _ _ (adds_two _ _ _ _ _ (adds_two _ _ _ _ _ c.in_ok-equate.ensures c.in_ok-join_function.ensures) c.in_ok-add_expression.ensures.agrees) c.in_ok-add_expression-2.ensures.agrees)
+    (k.is_body (seen_world c.args.world.now) c.args.locals.now _ c.args.tree.now c.args.from.now c.args.number _ _ _ c.in_ok-add_expression.ensures.locals c.number_of.ensures c.number_of-2.ensures c.bool_term.ensures (bool_stays (seen_world c.args.world.now)))
 
 pub group::add_local_binding-returns-in_ok-add_signed-in-Sig-clause-agrees : goal.group::add_local_binding-returns-in_ok-add_signed-in-Sig-clause-agrees
 group::add_local_binding-returns-in_ok-add_signed-in-Sig-clause-agrees t c = adds_as _ _ _ _ (adds_two _ _ _ _ _ c.in_ok-equate-in-Sig.ensures c.in_ok-add_signed-in-Sig.ensures)

@@ -1,17 +1,10 @@
--- The variables of both sides are the table's.
-use Rattle.std.proofs.Common.{length, arith}
-use Rattle.std.proofs.lemmas.Grind.{common_steps}
-use Rattle.rw_types_solving.specs.Types.{plain}
-use Rattle.rw_types_solving.proofs.Plains.{plain_var}
-use Rattle.rw_types_solving.proofs.Steps.{uses_top}
-use Rattle.rw_types_equations.proofs.Solving.{uses_plain, ok_narrowed}
+-- The variable is a type, or a function.
+use Rattle.rw_types_solving.specs.Types.{var}
+use Rattle.rw_types_equations.proofs.Solving.{ok_narrowed_to, told_type, told_function}
 use Rattle.rw_types_equations.proofs.solve.solve_one.Goals as goal
 
-pub equate-requires-clause-a_uses : goal.equate-requires-clause-a_uses
-equate-requires-clause-a_uses c = uses_plain (length c.args.table.now) c.args.equation.now.variable _ (plain_var _) (first_of (omega arith, grind (arith, common_steps)))
+pub returns-in-None-clause-narrowed : goal.returns-in-None-clause-narrowed
+returns-in-None-clause-narrowed c = ok_narrowed_to _ _ _ (var c.args.equation.now.variable) _ _ (told_type c.args.equation.now c.in-None.is) c.solve_type.ensures.narrowed
 
-pub equate-requires-clause-b_uses : goal.equate-requires-clause-b_uses
-equate-requires-clause-b_uses c = uses_top (length c.args.table.now) (plain c.args.equation.now.is) (first_of (omega arith, grind (arith, common_steps)))
-
-pub returns-clause-narrowed : goal.returns-clause-narrowed
-returns-clause-narrowed c = ok_narrowed _ _ _ _ _ _ (plain_var c.args.equation.now.variable) c.equate.ensures.narrowed
+pub returns-in-Some-clause-narrowed : goal.returns-in-Some-clause-narrowed
+returns-in-Some-clause-narrowed c = ok_narrowed_to _ _ _ (var c.args.equation.now.variable) _ _ (told_function c.args.equation.now c.in-Some.takes _ c.in-Some.is c.as_slice.ensures) c.solve_function.ensures.narrowed
