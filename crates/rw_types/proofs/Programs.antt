@@ -1,5 +1,5 @@
 -- Declarations one after the other: default typings so far, and the first declaration that has none.
-use Rattle.std.proofs.Common.{◌≡◌, ℕ, zero, suc, ◌+◌, ◌<◌, List, [], ◌∷◌, ◌++◌, map, take, length, get_or, Option, Some, None, Result, Ok, Err, refl, sym, ◌∙◌, ap, subst, arith, inl, inr}
+use Rattle.std.proofs.Common.{◌≡◌, ℕ, zero, suc, ◌+◌, ◌<◌, List, All, [], ◌∷◌, ◌++◌, map, take, length, get_or, Option, Some, None, Result, Ok, Err, refl, sym, ◌∙◌, ap, subst, arith, inl, inr}
 use Rattle.std.proofs.lemmas.List.{map-append, take_more}
 use Rattle.rw_base.specs.declared.place.Place.{Place}
 use Rattle.rw_base.specs.declared.rule.Rule.{Rule}
@@ -16,7 +16,7 @@ use Rattle.rw_types_rules.specs.TypedTrees.{TypedNode}
 use Rattle.rw_types_rules.specs.Typings.{IsTypable, IsDefault}
 use Rattle.rw_types.specs.declared.typed.TypedDecl.{TypedDecl}
 use Rattle.rw_types.specs.Inside.{IsInferredAlone}
-use Rattle.rw_types.specs.Inferred.{seen, AreDefault, AreTypable, declaration_place, FirstUntypable, IsInferred}
+use Rattle.rw_types.specs.Inferred.{seen, AreDefault, AreTypable, declaration_place, FirstUntypable, HasSharedTypes, IsInferred}
 
 refused_so : (refusal : Refusal) (place : Place) → refusal.rule ≡ E13 → refusal.place ≡ place → Some (record { rule = E13; place = place }) ≡ Some refusal
 refused_so refusal place p q =
@@ -24,6 +24,11 @@ refused_so refusal place p q =
 
 default_typable : (world : World) (d : Declaration Bound) (typed : Declaration TypedNode) → IsDefault world d typed → IsTypable world d
 default_typable world d typed k = record { sorts = k.sorts; states = k.states; typed = k.general; typing = k.typing }
+
+-- what the loop over declarations keeps
+pub record InferredSoFar (world : World) (decls : List (Decl Bound)) (all : List TypedDecl) : Type 0 where
+  pub default : AreDefault world (map (declaration itself) decls) (map seen all)
+  pub shared : All HasSharedTypes all
 
 module _ (world : World) where
   -- one declaration more

@@ -8,13 +8,14 @@ use Rattle.rw_types_solving.specs.Types.{Ty, plains, apply, Agrees, meaning}
 use Rattle.rw_types_solving.specs.Sorts.{HasSort}
 use Rattle.rw_types_solving.specs.Tables.{Small}
 use Rattle.rw_types_solving.specs.Conditions.{is_state_monad}
-use Rattle.rw_types_solving.specs.Closing.{closing}
+use Rattle.rw_types_solving.specs.Closing.{sort_of}
 use Rattle.rw_types_solving.proofs.StateMonads.{state_back}
 use Rattle.rw_types.proofs.Sorting.{general_sort}
 use Rattle.rw_types_rules.specs.declared.kind.VariableKind.{VariableKind}
 use Rattle.rw_types_rules.specs.Schemes.{World}
-use Rattle.rw_types_rules.specs.Typings.{kind_sort, heads_of, state_unknowns}
+use Rattle.rw_types_rules.specs.Typings.{kind_sort, heads_of, state_unknowns, leftover}
 use Rattle.rw_types_equations.specs.declared.numbered.Numbered.{Numbered}
+use Rattle.rw_types_shared.specs.Shared.{Node, type_at}
 use Rattle.rw_types.specs.Inferred.{type_of}
 use Rattle.rw_types.specs.Inside.{AreWithin, kind_at, slot_sorts, AreCarried, MayStand, AgreesBy, IsSolved, HasNoSolution}
 use Rattle.rw_types.proofs.ByKind.{slot_sort, may_sort, may_small, may_stack}
@@ -43,17 +44,18 @@ module _ (world : World) (tree : Decl Numbered) (slots own : List VariableKind) 
       → (AreCarried world slots own (meaning types) → ⊥) → HasNoSolution world tree slots own
   none_carried types general n within f v y t a may = f (instance_carried world slots own v y t types (general t a) n within may)
 
-  pub is_solved : (types made seen : List Term) (sorts ss : List Sort) → length types ≡ length slots → AgreesBy world tree (meaning types) → ((t : ℕ → Ty) → AgreesBy world tree t → Agrees t (meaning types))
-      → Small (length slots) (meaning types) → AreWithin (length slots) types → AreCarried world slots own (meaning types) → seen ≡ types → sorts ≡ map kind_sort slots → ss ≡ sorts
-      → plains made ≡ map (apply (closing ss)) (plains seen) → IsSolved world tree slots own (type_of made)
-  is_solved types made seen sorts ss n agrees general small within carried e f g closed = record {
+  pub is_solved : (types seen : List Term) (nodes : List Node) (made : List ℕ) (sorts ss : List Sort) → length types ≡ length slots → AgreesBy world tree (meaning types)
+      → ((t : ℕ → Ty) → AgreesBy world tree t → Agrees t (meaning types)) → Small (length slots) (meaning types) → AreCarried world slots own (meaning types)
+      → seen ≡ types → sorts ≡ map kind_sort slots → ss ≡ sorts → map (type_at nodes) made ≡ map (apply (leftover (sort_of ss))) (plains seen)
+      → IsSolved world tree slots own (type_of nodes made)
+  is_solved types seen nodes made sorts ss n agrees general small carried e f g closed = record {
     general = meaning types;
     agrees = agrees;
     most_general = general;
     small = small;
     carried = carried;
-    closed = closed_all (map kind_sort slots) types made (length-map slots kind_sort ∙ sym n) (subst (λ (m : ℕ). AreWithin m types) (sym n) within)
-        (closed ∙ ap (λ (ts : List Term). map (apply (closing ss)) (plains ts)) e ∙ ap (λ (zs : List Sort). map (apply (closing zs)) (plains types)) (g ∙ f));
+    closed = closed_all (map kind_sort slots) types nodes made (length-map slots kind_sort ∙ sym n)
+        (closed ∙ ap (λ (ts : List Term). map (apply (leftover (sort_of ss))) (plains ts)) e ∙ ap (λ (zs : List Sort). map (apply (leftover (sort_of zs))) (plains types)) (g ∙ f));
   }
 
 -- what the test says

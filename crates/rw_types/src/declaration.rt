@@ -4,7 +4,7 @@ ghost use Rattle.rw_tree.specs.Views.{itself};
 ghost use Rattle.rw_tree.specs.Declarations.{declaration};
 ghost use Rattle.rw_types_rules.specs.Typings.{IsTypable, IsDefault};
 ghost use Rattle.rw_types_equations.specs.Seen.{seen_world};
-ghost use Rattle.rw_types.specs.Inferred.{seen};
+ghost use Rattle.rw_types.specs.Inferred.{seen, HasSharedTypes};
 ghost use Rattle.rw_base.specs.declared.fail.Failure.TheVariants as fail;
 
 use crate::TypedDecl;
@@ -32,6 +32,8 @@ pub fn infer_declaration(
 ) -> Result<TypedDecl, Unsolved>
     // Ok: the default typing.
     ensures default { IfOk result (λ made. IsDefault (seen_world world.now) (declaration itself decl.now) (seen made)) }
+    // Each type stands once.
+    ensures shared { IfOk result (λ made. HasSharedTypes made) }
     // Refused: there is no typing.
     ensures refused { result ≡ Err (fail.Refused (record {})) → IsTypable (seen_world world.now) (declaration itself decl.now) → ⊥ }
 {
@@ -42,6 +44,6 @@ pub fn infer_declaration(
     seen_law();
     let own = kinds_at(alloc, label(decl).bound, world)?;
     let (tree, slots) = number_declaration(alloc, decl, world)?;
-    let types = default_types(alloc, &tree, world, slots.as_slice(), own.as_slice())?;
-    Ok(TypedDecl { tree, types })
+    let (nodes, types) = default_types(alloc, &tree, world, slots.as_slice(), own.as_slice())?;
+    Ok(TypedDecl { tree, nodes, types })
 }

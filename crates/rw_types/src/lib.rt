@@ -19,7 +19,7 @@ mod sorted;
 mod typed;
 
 pub use declaration::infer_declaration;
-pub use laws::{general_sort, general_state_monad, one_sort};
+pub use laws::{general_sort, general_state_monad, one_sort, same_types};
 pub use program::infer;
 pub use sorted::{all_sorted, is_of_sort};
 pub use typed::TypedDecl;

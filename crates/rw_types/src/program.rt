@@ -1,5 +1,5 @@
 // The typings of a whole program.
-ghost use Rattle.std.specs.Prelude.{◌≡◌, Some, None, map};
+ghost use Rattle.std.specs.Prelude.{◌≡◌, All, IfOk, Some, None, map};
 ghost use Rattle.rw_base.specs.declared.place.Place.{Place as PlainPlace};
 ghost use Rattle.rw_base.specs.declared.rule.Rule.TheVariants.{E13};
 ghost use Rattle.rw_base.specs.Answers.{IsJudged};
@@ -7,7 +7,7 @@ ghost use Rattle.rw_tree.specs.Views.{itself};
 ghost use Rattle.rw_tree.specs.Declarations.{declaration, plain_program};
 ghost use Rattle.rw_types_rules.specs.Schemes.{world_of};
 ghost use Rattle.rw_types_equations.specs.Seen.{seen_world};
-ghost use Rattle.rw_types.specs.Inferred.{AreTypable, FirstUntypable, IsInferred};
+ghost use Rattle.rw_types.specs.Inferred.{AreTypable, FirstUntypable, HasSharedTypes, IsInferred};
 ghost use Rattle.rw_types.specs.Inside.{IsInferredAlone};
 
 use crate::TypedDecl;
@@ -24,7 +24,8 @@ use std::alloc::Global;
 
 // The default typing of a declaration, or E13 at the declaration.
 fn infer_one(alloc: Global, decl: &Decl<Bound>, world: &World) -> Result<TypedDecl, Fail>
-    ensures { IsInferredAlone (seen_world world.now) (declaration itself decl.now) result }
+    ensures inferred { IsInferredAlone (seen_world world.now) (declaration itself decl.now) result }
+    ensures shared { IfOk result (λ made. HasSharedTypes made) }
 {
     match infer_declaration(alloc, decl, world) {
         Ok(typed) => Ok(typed),
@@ -38,7 +39,8 @@ fn infer_one(alloc: Global, decl: &Decl<Bound>, world: &World) -> Result<TypedDe
 
 // The default typings of declarations, or E13 at the first that has none.
 fn infer_all(alloc: Global, decls: &[Decl<Bound>], world: &World) -> Result<Items<TypedDecl>, Fail>
-    ensures { IsInferred (seen_world world.now) (map (declaration itself) decls.now) result }
+    ensures inferred { IsInferred (seen_world world.now) (map (declaration itself) decls.now) result }
+    ensures shared { IfOk result (λ made. All HasSharedTypes made) }
 {
     let mut all = Items::new(alloc);
     for decl in decls {
@@ -56,6 +58,8 @@ fn infer_all(alloc: Global, decls: &[Decl<Bound>], world: &World) -> Result<Item
 pub fn infer(alloc: Global, program: &Program<Bound>) -> Result<Items<TypedDecl>, Fail>
     // Ok: the default typings. Refused: E13 at the first declaration that has no typing.
     ensures inferred { IsInferred (world_of (plain_program (λ a. a.span) program.now).declarations) (plain_program itself program.now).declarations result }
+    // Each type of a declaration stands once: two are the same exactly where their places in its table are.
+    ensures shared { IfOk result (λ made. All HasSharedTypes made) }
     // Where each declaration has a typing the answer is Ok, unless memory runs out.
     ensures typable { AreTypable (world_of (plain_program (λ a. a.span) program.now).declarations) (plain_program itself program.now).declarations → IsJudged None result }
     // Where one has none the place of the first of them is named, unless memory runs out.

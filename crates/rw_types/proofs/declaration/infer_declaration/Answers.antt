@@ -13,16 +13,16 @@ use Rattle.rw_types_numbering.specs.Numbering.{numbered_declaration}
 use Rattle.rw_types.proofs.Default.{default_is, untypable}
 use Rattle.rw_types.proofs.declaration.infer_declaration.Goals as goal
 
-pub returns-in_err-types-clause-refused : goal.returns-in_err-types-clause-refused
-returns-in_err-types-clause-refused c = λ h.
-    let p = err_from_is_err_and c.from_residual-in_err-types.result c.from_residual-in_err-types.ensures.1 in
+pub returns-in_err-nodes-clause-refused : goal.returns-in_err-nodes-clause-refused
+returns-in_err-nodes-clause-refused c = λ h.
+    let p = err_from_is_err_and c.from_residual-in_err-nodes.result c.from_residual-in_err-nodes.ensures.1 in
     let world = seen_world c.args.world.now in
     let d = declaration itself c.args.decl.now in
     untypable world d c.in_ok-tree.tree (numbered_declaration world 0 d) c.as_slice.result.now c.as_slice-2.result.now
     (c.erased_law.ensures world 0 d) (λ v y typed. c.assignment_law.ensures v y world d typed) (λ v y t. c.typing_law.ensures v y world t d) (λ t s r. c.instance_law.ensures t s r (numbered_declaration world 0 d))
     (λ t. c.seen_law.ensures t c.in_ok-tree.tree ∙ ap (relabelled_declaration (typed_by t)) c.in_ok-tree.ensures.numbered)
     (c.as_slice.ensures ∙ c.in_ok-tree.ensures.slots) (c.as_slice-2.ensures ∙ c.in_ok-own.ensures ∙ ap (λ (a : Bound). scheme_kinds (scheme_at world a.bound)) c.label.ensures)
-    (c.in_err-types.ensures.refused (cc))
+    (c.in_err-nodes.ensures.refused (cc))
 
 pub returns-clause-default : goal.returns-clause-default
 returns-clause-default c =
@@ -32,4 +32,4 @@ returns-clause-default c =
     (c.erased_law.ensures world 0 d) (λ v y typed. c.assignment_law.ensures v y world d typed) (λ v y t. c.typing_law.ensures v y world t d) (λ t s r. c.instance_law.ensures t s r (numbered_declaration world 0 d))
     (λ t. c.seen_law.ensures t c.in_ok-tree.tree ∙ ap (relabelled_declaration (typed_by t)) c.in_ok-tree.ensures.numbered)
     (c.as_slice.ensures ∙ c.in_ok-tree.ensures.slots) (c.as_slice-2.ensures ∙ c.in_ok-own.ensures ∙ ap (λ (a : Bound). scheme_kinds (scheme_at world a.bound)) c.label.ensures)
-    _ c.in_ok-types.ensures.solved
+    _ c.in_ok-nodes.ensures.solved

@@ -11,9 +11,9 @@ use Rattle.rw_types.proofs.program.infer.Goals as goal
 pub returns-clause-typable : goal.returns-clause-typable
 returns-clause-typable c =
     ok_unless _ _ _ (inferred_of _ _ _ _ _ (c.in_ok-world.ensures ∙ ap (λ (ds : List (Decl Bound)). world_of (map (declaration (λ a. a.span)) ds)) c.as_slice-decls.ensures)
-    (ap (map (declaration itself)) c.as_slice-decls.ensures) c.infer_all.ensures)
+    (ap (map (declaration itself)) c.as_slice-decls.ensures) c.infer_all.ensures.inferred)
 
 pub returns-clause-untypable : goal.returns-clause-untypable
 returns-clause-untypable c =
     refused_unless _ _ _ (inferred_of _ _ _ _ _ (c.in_ok-world.ensures ∙ ap (λ (ds : List (Decl Bound)). world_of (map (declaration (λ a. a.span)) ds)) c.as_slice-decls.ensures)
-    (ap (map (declaration itself)) c.as_slice-decls.ensures) c.infer_all.ensures)
+    (ap (map (declaration itself)) c.as_slice-decls.ensures) c.infer_all.ensures.inferred)
