@@ -6,6 +6,8 @@ mod Shaped
 mod Alone
 pub mod Stands
 pub mod Worlds
-pub mod Columns
+pub mod Relabelled
+pub mod Agreeing
+mod Columns
 pub mod Programs
 pub mod Typable

@@ -15,12 +15,9 @@ use Rattle.rw_tree.specs.Trees.{LocalBinding, local_signature, local_function, l
 use Rattle.rw_tree.specs.Declarations.{PlainConstructor, Declaration, import_declaration, data_declaration, fixity_declaration, signature_declaration, function_declaration, PlainProgram}
 use Rattle.rw_cover.specs.declared.known.Known.{Known}
 use Rattle.rw_cover.specs.Rows.{known_of}
+use Rattle.rw_cover_laws.proofs.Agreeing.{all_behind}
 use Rattle.rw_meaning_matching.specs.Exact.{MayNameConstructor, NamesConstructors, PartsNameConstructors}
 use Rattle.rw_meaning_matching.specs.Rows.{PatternRow, has_body, row_with, pattern_row, pattern_rows, clauses_rows, node_rows, declaration_rows, rows_of, RowNamesConstructors, AllNameConstructors}
-
-all_behind : {X : Type 0} (P : X → Type 0) (xs ys : List X) → AllByRecursion P xs → AllByRecursion P ys → AllByRecursion P (xs ++ ys)
-all_behind P [] ys h k = k
-all_behind P (x ∷ xs) ys h k = (h.0, all_behind P xs ys h.1 k)
 
 -- == Top level ==
 
