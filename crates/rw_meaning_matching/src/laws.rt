@@ -66,7 +66,7 @@ pub fn typed_rows_are_exact()
 {}
 
 /// So where they cover, as the Ok of `cover` of `rw_cover` says, some row takes all that stands for values of the columns' types, at
-/// every closed instance, and the rows before it are passed over.
+/// every closed instance, and no row before it is stuck.
 pub fn covered_rows_take_each_value()
     ensures agreeing { (program : List (Declaration Bound)) (typed : List (Declaration TypedNode)) → AllByRecursion (DeclarationAgrees (world_in typed)) typed → AllNameConstructors (rows_of (untyped typed)) → AllByRecursion IsCovered (groups_of (untyped typed)) → AllTakeEach program (world_in typed) (rows_of (untyped typed)) (columns_of typed) }
     ensures typings { (program : List (Declaration Bound)) (source : PlainProgram Span) (typed : List (Declaration TypedNode)) → AreTypingsOf source typed → AllByRecursion IsCovered (groups_of (bound_program source)) → AllTakeEach program (world_of source.declarations) (rows_of (bound_program source)) (columns_of typed) }
