@@ -2,7 +2,7 @@
 //! and the types of an instance. Each law is the contract of a function that does nothing.
 //!
 //! It leaves what a typing is to `rw_types_rules`, and finding one to `rw_types`. It has no code that runs.
-//! What stands on the typed trees of a program cites it. Begin with `specs/Instances.antt` and `laws.rt`.
+//! What stands on the typed trees of a program cites it. Begin with `laws.rt`; the words are in `rw_types_instances`.
 #![tactic(auto)]
 
 mod laws;
