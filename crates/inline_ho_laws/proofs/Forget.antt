@@ -78,7 +78,7 @@ bare_variables (more_variable i) = more_variable (bare_variables i)
 module _ (program : List (Declaration Bound)) (function_of : ℕ → List Ty → Option ℕ) (clauses_of : ℕ → List Ty → Option (Alternatives TypedNode)) (number_of : Ty → Option ℕ) (IsFunction : ℕ → ℕ → Type 0)
     (numbered : (n i : ℕ) (arguments : List Ty) → function_of n arguments ≡ Some i → IsFunction i n)
     (declared : (n : ℕ) (arguments : List Ty) (cs : Alternatives TypedNode) → clauses_of n arguments ≡ Some cs → (declaration_at n program >>= declared_clauses) ≡ Some (bare_clauses cs)) where
-  group_bare : {d : ℕ} {E : Meants Bound} {lets : FlatLets} {d' : ℕ} {ns : Meants Bound} (group : LocalBindings TypedNode) → f.IsPlaced program IsFunction (relabelled_group node_of group) d E (bare_meants (unplaced_names group)) lets d' ns
+  pub group_bare : {d : ℕ} {E : Meants Bound} {lets : FlatLets} {d' : ℕ} {ns : Meants Bound} (group : LocalBindings TypedNode) → f.IsPlaced program IsFunction (relabelled_group node_of group) d E (bare_meants (unplaced_names group)) lets d' ns
       → f.IsPlaced program IsFunction (relabelled_group node_of group) d E (all_unplaced (length (group_variables (relabelled_group node_of group)))) lets d' ns
   group_bare {d = d} {E = E} {lets = lets} {d' = d'} {ns = ns} group i = subst (λ z. f.IsPlaced program IsFunction (relabelled_group node_of group) d E z lets d' ns) (bare_names group) i
 
@@ -145,7 +145,7 @@ module _ (program : List (Declaration Bound)) (function_of : ℕ → List Ty →
     params_forget (data_param e i j) = f.data_param (datum_forget i) (params_forget j)
     params_forget (function_param e j) = f.function_param (params_forget j)
 
-    body_forget : {d : ℕ} {E ps args : Meants TypedNode} {cs : Alternatives TypedNode} {t : FlatTerm} → IsBody program function_of clauses_of number_of d E cs ps args t → f.IsBody program IsFunction d (bare_meants E) (bare_clauses cs) (bare_meants ps) (bare_meants args) t
+    pub body_forget : {d : ℕ} {E ps args : Meants TypedNode} {cs : Alternatives TypedNode} {t : FlatTerm} → IsBody program function_of clauses_of number_of d E cs ps args t → f.IsBody program IsFunction d (bare_meants E) (bare_clauses cs) (bare_meants ps) (bare_meants args) t
     body_forget (plain_body {d = d} {d' = d'} {E = E} {params = ps} {args = args} {ms = ms} {e = e} {wheres = ws} {lets = lets} {t = t} v i j) =
         f.plain_body (bare_variables v) (subst (λ z. f.IsPlaced program IsFunction (relabelled_group node_of ws) d z (all_unplaced (length (group_variables (relabelled_group node_of ws)))) lets d' (bare_meants ms)) (bare_joined E ps) (group_bare ws (placed_forget ws i (stands_all ws))))
         (subst (λ z. f.IsFlat program IsFunction d' z (bare_expression e) (bare_meants args) t) (two_joined E ps ms) (forget j))
@@ -167,7 +167,7 @@ module _ (program : List (Declaration Bound)) (function_of : ℕ → List Ty →
     guarded_forget none_guarded = f.none_guarded
     guarded_forget (some_guarded i j k) = f.some_guarded (forget i) (forget j) (guarded_forget k)
 
-    placed_forget : (group : LocalBindings TypedNode) {order : List (Numbered TypedNode)} {d : ℕ} {E ms : Meants TypedNode} {lets : FlatLets} {d' : ℕ} {ns : Meants TypedNode} → IsPlaced program function_of clauses_of number_of group order d E ms lets d' ns → AllByRecursion (λ x. StandsIn group (first_name (bindings_of group) x.0) x.1) order
+    pub placed_forget : (group : LocalBindings TypedNode) {order : List (Numbered TypedNode)} {d : ℕ} {E ms : Meants TypedNode} {lets : FlatLets} {d' : ℕ} {ns : Meants TypedNode} → IsPlaced program function_of clauses_of number_of group order d E ms lets d' ns → AllByRecursion (λ x. StandsIn group (first_name (bindings_of group) x.0) x.1) order
         → f.IsPlaced program IsFunction (relabelled_group node_of group) d (bare_meants E) (bare_meants ms) lets d' (bare_meants ns)
     placed_forget group all_placed h = f.all_placed
     placed_forget group (signature_placed i) h = placed_forget group i h.1

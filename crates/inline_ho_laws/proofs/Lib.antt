@@ -10,3 +10,4 @@ pub mod Once
 pub mod Orders
 pub mod Bare
 pub mod Forget
+pub mod Programs

@@ -1,5 +1,5 @@
 // The laws of flattening: each is the contract of a function that does nothing.
-ghost use Rattle.std.specs.Prelude.{◌≡◌, ℕ, List, Option, Some};
+ghost use Rattle.std.specs.Prelude.{◌≡◌, ℕ, List, [], ◌∷◌, Option, Some, map};
 ghost use Rattle.rw_scope_rules.specs.declared.binding.Bound.{Bound};
 ghost use Rattle.rw_tree.specs.Trees.{Expression, Alternatives};
 ghost use Rattle.rw_tree.specs.Declarations.{Declaration};
@@ -7,13 +7,16 @@ ghost use Rattle.rw_core.specs.Values.{Val};
 ghost use Rattle.rw_core.specs.Systems.{System};
 ghost use Rattle.rw_meaning.specs.Outputs.{Denotes};
 ghost use Rattle.rw_types_solving.specs.Types.{Ty};
-ghost use Rattle.rw_types_rules.specs.TypedTrees.{TypedNode};
+ghost use Rattle.rw_types_rules.specs.TypedTrees.{TypedNode, erased};
 ghost use Rattle.rw_core_flat.specs.Terms.{FlatTerm};
 ghost use Rattle.rw_core_flat.specs.Programs.{FlatFunction, FlatDenotes};
 ghost use Rattle.inline_ho_rules.specs.Meants.{Meants};
 ghost use Rattle.inline_ho_rules.specs.Flattening.{IsFlat};
 ghost use Rattle.inline_ho_rules.specs.FlatPrograms.{IsOf, IsFlatProgram};
 ghost use Rattle.inline_ho_rules.specs.TypedFlattening.{IsTypedFlat};
+ghost use Rattle.inline_ho_rules.specs.TypedPrograms.{IsFlatOf};
+ghost use Rattle.specialise_rules.specs.Instances.{Instance, start_from};
+ghost use Rattle.rw_types_rules.specs.Schemes.{World};
 ghost use Rattle.inline_ho_rules.specs.Untyped.{bare_expression, bare_clauses, bare_meants, clauses_declared};
 
 /// What a flat program for a source denotes, the source denotes.
@@ -30,4 +33,9 @@ pub fn typed_expressions_flatten_once()
 /// clauses of an instance are those of its declaration.
 pub fn typed_flattening_is_flattening()
     ensures { (program : List (Declaration Bound)) (function_of : ℕ → List Ty → Option ℕ) (clauses_of : ℕ → List Ty → Option (Alternatives TypedNode)) (number_of : Ty → Option ℕ) (origins : List (Option ℕ)) → ((n i : ℕ) (arguments : List Ty) → function_of n arguments ≡ Some i → IsOf origins i n) → ((n : ℕ) (arguments : List Ty) (cs : Alternatives TypedNode) → clauses_of n arguments ≡ Some cs → clauses_declared program n ≡ Some (bare_clauses cs)) → (next : ℕ) (names arguments : Meants TypedNode) (e : Expression TypedNode) (term : FlatTerm) → IsTypedFlat program function_of clauses_of number_of next names e arguments term → IsFlat program (IsOf origins) next (bare_meants names) (bare_expression e) (bare_meants arguments) term }
+{}
+
+/// What the flat program of a typed program denotes, which begins with the instance of `start`, the program denotes without its types.
+pub fn flat_programs_of_typed_ones_mean_them()
+    ensures { (world : World) (typed : List (Declaration TypedNode)) (start : Instance) (others : List Instance) (table : List Ty) (functions : List FlatFunction) (system : System ℕ ℕ) → start_from 0 typed ≡ start ∷ [] → IsFlatOf world typed (start ∷ others) table functions system → (inputs outputs : List Val) → FlatDenotes functions system inputs outputs → Denotes (map erased typed) inputs outputs }
 {}

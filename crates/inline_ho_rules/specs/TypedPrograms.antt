@@ -128,6 +128,7 @@ module _ (world : World) (typed : List (Declaration TypedNode)) (instances : Lis
 
     -- the flat function of a part of `start`: it is read inside what is bound after the `where`
     pub record IsOfPart (parameters : ℕ) (e : Expression TypedNode) (f : FlatFunction) : Type 0 where
+      pub counted : length f.params ≡ parameters
       pub next : ℕ
       pub inside : Meants TypedNode
       pub lets : FlatLets
@@ -152,19 +153,23 @@ module _ (world : World) (typed : List (Declaration TypedNode)) (instances : Lis
     AreOf (o ∷ os) [] = ⊥
     AreOf (o ∷ os) (f ∷ fs) = IsOf o f × AreOf os fs
 
--- the declaration of `start` in these instances, of which it is the first
+-- the place of a function
+abbrev pub declared_place : Declaration TypedNode → Place
+declared_place (function_declaration a x clauses) = a.node.span.first
+declared_place _ = record { line = 0; column = 0 }
+
+-- the declaration of the first of these instances
 abbrev pub first_declared : List (Declaration TypedNode) → List Instance → Option (Declaration TypedNode)
 first_declared typed [] = None
 first_declared typed (i ∷ is) = declared_in typed i
 
--- the flat program of these instances of a typed program: the closed data types, the functions, and the system over their numbers
+-- the flat program of these instances of a typed program, the first of which is `start`: the closed data types, the functions, and the system over
+-- their numbers
 pub record IsFlatOf (world : World) (typed : List (Declaration TypedNode)) (instances : List Instance) (table : List Ty) (functions : List FlatFunction) (system : System ℕ ℕ) : Type 0 where
   pub tabled : IsTableOf world typed instances table
   pub declared : Declaration TypedNode
   pub first : first_declared typed instances ≡ Some declared
   pub start : Body TypedNode
   pub found : start_body declared ≡ Some start
-  pub place : Place
-  pub placed : (a : TypedNode) (x : List ℕ) → (clauses : List _) → declared ≡ function_declaration a x clauses → place ≡ a.node.span.first
-  pub made : AreOf world typed instances table start place (origins world typed instances table start place) functions
+  pub made : AreOf world typed instances table start (declared_place declared) (origins world typed instances table start (declared_place declared)) functions
   pub numbered : system ≡ numbered_system 0 (system_of typed_binding start.expression)

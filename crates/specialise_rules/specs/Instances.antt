@@ -3,7 +3,7 @@ use Rattle.std.specs.Prelude.{ℕ, zero, suc, nat_eq, nat_le, List, [], ◌∷�
 use Rattle.std.specs.List.{flat_map, list_any}
 use Rattle.rw_scope_rules.specs.declared.binding.Binding.{Binding}
 use Rattle.rw_scope_rules.specs.declared.binding.Binding.TheVariants.{Declared}
-use Rattle.rw_scope_rules.specs.Names.{same_name}
+use Rattle.rw_scope_rules.specs.Names.{is_among as is_named}
 use Rattle.rw_scope_rules.specs.Nodes.{Node, expression_node, declaration_nodes}
 use Rattle.rw_tree.specs.Trees.{variable}
 use Rattle.rw_tree.specs.Declarations.{Declaration, function_declaration}
@@ -76,7 +76,7 @@ mentioned_in (Some d) = map (λ m. m.1) (from_left (flat_map named_at (declarati
 
 abbrev pub start_from : ℕ → List (Declaration TypedNode) → List Instance
 start_from n [] = []
-start_from n (function_declaration a x clauses ∷ ds) = if same_name x (codes "start") then record { declaration = n; arguments = [] } ∷ [] else start_from (suc n) ds
+start_from n (function_declaration a x clauses ∷ ds) = if is_named x (codes "start" ∷ []) then record { declaration = n; arguments = [] } ∷ [] else start_from (suc n) ds
 start_from n (d ∷ ds) = start_from (suc n) ds
 
 -- the first of these that isn't listed yet, as a list
