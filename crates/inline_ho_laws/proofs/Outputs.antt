@@ -1,32 +1,33 @@
 -- What calls of flat functions give, their sources give; so does what is read of the parts of a system.
-use Rattle.std.proofs.Common.{◌≡◌, ℕ, zero, suc, ◌≤◌, nat_eq, Bool, true, false, if◌then◌else◌, List, [], ◌∷◌, length, Option, Some, None, refl, arith, ap, subst, sym}
+use Rattle.std.proofs.Common.{◌≡◌, ℕ, zero, suc, ◌≤◌, nat_eq, Bool, true, false, if◌then◌else◌, List, [], ◌∷◌, length, Option, Some, None, refl, arith, ap, subst, sym, ◌∙◌}
 use Rattle.std.proofs.lemmas.Bool.Decides.{nat_tests}
 use Rattle.std.specs.Option.{IfSome}
 use Rattle.rw_scope_rules.specs.declared.binding.Bound.{Bound}
 use Rattle.rw_scope_rules.specs.Bindings.{group_variables}
-use Rattle.rw_tree.specs.Trees.{Expression, Alternatives, LocalBindings}
+use Rattle.rw_scope_rules.specs.declared.binding.Binding.TheVariants.{Declared}
+use Rattle.rw_tree.specs.Trees.{Expression, variable, Alternatives, LocalBindings}
 use Rattle.rw_tree.specs.Declarations.{Declaration}
 use Rattle.rw_core.specs.Values.{Val}
 use Rattle.rw_core.specs.Options.{◌>>=◌}
 use Rattle.rw_core.specs.Eventually.{GrowsInTime}
-use Rattle.rw_core.specs.Traces.{End, waits, finished, shown}
+use Rattle.rw_core.specs.Traces.{End, waits, finished, Trace, shown}
 use Rattle.rw_core.specs.Systems.{System, leaf, side_by_side, fed_back, AreAlike}
 use Rattle.rw_core.proofs.Eventually.{if_on, if_map}
 use Rattle.rw_meaning.specs.Results.{Thunk, kept, kept_call, known, Thunks, nothing, and_then, how_many, first_thunks, later_thunks, held}
 use Rattle.rw_meaning.specs.Evaluation.{evaluate, force, inside_names, patterns_before, declaration_at}
 use Rattle.rw_meaning.specs.Outputs.{value_of_call, reading_in}
-use Rattle.rw_meaning.specs.Steps.{Gives, AllStand, Shows, IsRealised}
+use Rattle.rw_meaning.specs.Steps.{Gives, Stands, AllStand, EachStands, Acts, Traces, Shows, IsRealised}
 use Rattle.rw_meaning.proofs.Acting.{as_a_value, held_stands, shows, realised}
 use Rattle.rw_meaning.specs.Outputs.{Denotes}
-use Rattle.rw_core_flat.specs.Meaning.{Mode, valued, tracing, Answer, a_value, done, traced as a_trace, as_value, as_trace, meaning, bound}
+use Rattle.rw_core_flat.specs.Meaning.{Mode, valued, acting, tracing, Answer, a_value, done, traced as a_trace, as_value, as_trace, meaning, bound}
 use Rattle.rw_core_flat.specs.Terms.{let_term}
 use Rattle.rw_core_flat.specs.Programs.{FlatFunction, function_at, call_within, read_by, FlatDenotes}
 use Rattle.inline_ho_rules.specs.Meants.{Meants, no_meants, more_meants, flats, first_meants, later_meants, declared_clauses}
 use Rattle.inline_ho_rules.specs.Flattening.{IsWhole}
 use Rattle.inline_ho_rules.specs.FlatPrograms.{IsOf, AreFlattened, IsPart, IsFlatProgram}
 use Rattle.inline_ho_laws.proofs.Stands.{EndStands, ReachesAnswer, AllMeant, flats_meant}
-use Rattle.inline_ho_laws.proofs.Heads.{Declares, ClausesGive, reach_on, value_stands, unplaced_meant, clauses_declare, clauses_reached, kept_given}
-use Rattle.inline_ho_laws.proofs.Devices.{ForceReaches, traced_by, call_reaches}
+use Rattle.inline_ho_laws.proofs.Heads.{Declares, ClausesGive, reach_on, value_stands, unplaced_meant, clauses_declare, clauses_reached, declared_given, kept_given}
+use Rattle.inline_ho_laws.proofs.Devices.{ForceReaches, acted_by, traced_by, call_reaches}
 use Rattle.inline_ho_laws.proofs.Denoted.{CallsAreRight, body_law, flat_law, placed_law, kept_meant}
 
 nat_eq_same : (a b : ℕ) → nat_eq a b ≡ true → a ≡ b
@@ -82,6 +83,17 @@ module _ (program : List (Declaration Bound)) where
     unfolding call_within
     calls_are_right zero i n g mode vs ts s = tt
     calls_are_right (suc budget) i n g mode vs ts s = by_function budget (calls_are_right budget) i n g mode vs ts s (function_at i functions) refl
+
+    -- == Functions ==
+
+    -- a name of a declaration, applied to arguments, does what a call of its flat function does
+    pub function_reaches : (budget i n : ℕ) → IsOf origins i n → (around : Thunks) (a : Bound) (x : List ℕ) → a.bound ≡ Some (Declared n) → (vs : List Val) (ts : Thunks) → AllStand program ts vs → (mode : Mode)
+        → IfSome (call_within functions budget mode i vs) (ForceReaches program (kept_call (kept around (variable a x)) ts) mode)
+    function_reaches budget i n g around a x b vs ts s mode =
+        let call = call_within functions budget mode i vs in
+        call_reaches program (kept around (variable a x)) ts mode call
+        (reach_on program _ (Gives program (force (kept around (variable a x)))) ts mode call (λ f h. kept_given program around (variable a x) f h)
+        (reach_on program (Declares program n) _ ts mode call (λ f d. declared_given program around a x n f b d) (calls_are_right budget i n g mode vs ts s)))
 
     -- == Parts of `start` ==
 
@@ -169,3 +181,46 @@ pub denoted : (program : List (Declaration Bound)) (origins : List (Option ℕ))
     → FlatDenotes functions system inputs outputs → Denotes program inputs outputs
 denoted program origins functions system f inputs outputs d =
     realised program (read_by (call_within functions d.from)) system f.start f.found (parts_read program origins functions f.flattened f.start.wheres d.from system _ f.parts) inputs outputs (d.holds d.from (omega arith))
+
+-- == Functions, by what is asked of them ==
+
+held_by : {A : Type 0} (P : A → Type 0) (x : Option A) (a : A) → IfSome x P → x ≡ Some a → P a
+held_by P None a h e = absurd (cc)
+held_by P (Some b) a h e = let k : b ≡ a = cc in subst P k h
+
+ends_alike : (program : List (Declaration Bound)) (end : End Thunk Thunks) (other : End Val (List Val)) → EndStands program end other
+    → (other ≡ waits → end ≡ waits) × ((v : Val) (states left : List Val) → other ≡ finished v states left → (t : Thunk) × (after : Thunks) × (end ≡ finished t after left) × Stands program t v × AllStand program after states)
+ends_alike program waits waits h = (λ e. refl, λ v states left e. absurd (cc))
+ends_alike program waits (finished v states left) h = absurd h
+ends_alike program (finished t ss left) waits h = absurd h
+ends_alike program (finished t ss left) (finished v states inputs) h = (λ e. absurd (cc), λ w others rest e. finishes w others rest e)
+  where
+    finishes : (w : Val) (others rest : List Val) → finished v states inputs ≡ finished w others rest → (u : Thunk) × (after : Thunks) × (finished t ss left ≡ finished u after rest) × Stands program u w × AllStand program after others
+    finishes w others rest e =
+        let a : v ≡ w = cc in let b : states ≡ others = cc in let c : inputs ≡ rest = cc in
+        (t, ss, ap (finished t ss) (h.2 ∙ c), subst (Stands program t) a h.0, subst (AllStand program ss) b h.1)
+
+module _ (program : List (Declaration Bound)) (origins : List (Option ℕ)) (functions : List FlatFunction) (flattened : AreFlattened program origins functions) (budget i n : ℕ) (of : IsOf origins i n) (around : Thunks) (a : Bound) (x : List ℕ)
+    (b : a.bound ≡ Some (Declared n)) (vs : List Val) (ts : Thunks) (s : AllStand program ts vs) where
+  abbrev called : Thunk
+  called = kept_call (kept around (variable a x)) ts
+
+  pub value_given : (v : Val) → call_within functions budget valued i vs ≡ Some (a_value v) → Stands program called v
+  value_given v e =
+      value_stands program (Gives program (force called)) called (Some (a_value v)) (λ f g. g)
+      (held_by (ForceReaches program called valued) (call_within functions budget valued i vs) (a_value v) (function_reaches program origins functions flattened budget i n of around a x b vs ts s valued) e)
+
+  pub action_done : (states : List Val) (v : Val) (after : List Val) → call_within functions budget (acting states) i vs ≡ Some (done v after) → (before : Thunks) → AllStand program before states
+      → (t : Thunk) × (left : Thunks) × Acts program called before t left × Stands program t v × AllStand program left after
+  action_done states v after e before h =
+      acted_by program called states v after
+      (held_by (ForceReaches program called (acting states)) (call_within functions budget (acting states) i vs) (done v after) (function_reaches program origins functions flattened budget i n of around a x b vs ts s (acting states)) e) before h
+
+  pub device_traced : (states inputs outputs : List Val) (end : End Val (List Val)) → call_within functions budget (tracing states inputs) i vs ≡ Some (a_trace outputs end) → (before : Thunks) → AllStand program before states
+      → (t : Trace Thunk Thunks) × Traces program called before inputs t × EachStands program t.outputs outputs × (end ≡ waits → t.end ≡ waits)
+      × ((v : Val) (after left : List Val) → end ≡ finished v after left → (u : Thunk) × (rest : Thunks) × (t.end ≡ finished u rest left) × Stands program u v × AllStand program rest after)
+  device_traced states inputs outputs end e before h =
+      let r = traced_by program called states inputs outputs end
+      (held_by (ForceReaches program called (tracing states inputs)) (call_within functions budget (tracing states inputs) i vs) (a_trace outputs end) (function_reaches program origins functions flattened budget i n of around a x b vs ts s (tracing states inputs)) e) before h in
+      let z = ends_alike program r.0.end end r.3 in
+      (r.0, r.1, r.2, z.0, z.1)

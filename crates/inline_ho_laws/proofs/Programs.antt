@@ -5,7 +5,6 @@ use Rattle.std.specs.Option.{option_map}
 use Rattle.std.proofs.lemmas.Bool.Decides.{nat_tests}
 use Rattle.rw_base.specs.declared.place.Place.{Place}
 use Rattle.rw_scope_rules.specs.declared.binding.Bound.{Bound}
-use Rattle.rw_scope_rules.specs.Bindings.{group_variables}
 use Rattle.rw_scope_rules.specs.Names.{is_among as is_named}
 use Rattle.rw_tree.specs.Patterns.{Pattern}
 use Rattle.rw_tree.specs.Trees.{Expression, Alternative, Alternatives, more_alternatives, alternative_parts}
@@ -13,11 +12,11 @@ use Rattle.rw_tree.specs.Declarations.{Declaration, import_declaration, data_dec
 use Rattle.rw_core.specs.Options.{◌>>=◌}
 use Rattle.rw_core.specs.Systems.{System, leaf, side_by_side, fed_back, AreAlike}
 use Rattle.rw_meaning.specs.Evaluation.{declaration_at, patterns_before as bare_patterns_before}
-use Rattle.rw_meaning.specs.Systems.{Body, binding_of, body_of, start_of, system_of}
+use Rattle.rw_meaning.specs.Systems.{Body, binding_of, start_of, system_of}
 use Rattle.rw_types_solving.specs.Types.{Ty}
 use Rattle.rw_types_rules.specs.Schemes.{World}
 use Rattle.rw_types_rules.specs.TypedTrees.{TypedNode, erased}
-use Rattle.rw_types_rules.specs.Relabelled.{relabelled_alternative, relabelled_declaration, relabelled_group, relabelled_expression}
+use Rattle.rw_types_rules.specs.Relabelled.{relabelled_alternative, relabelled_group, relabelled_expression}
 use Rattle.rw_types_numbering.proofs.Relabelling.{twice_declaration}
 use Rattle.rw_types_instances.specs.Instances.{closed_node, in_instance}
 use Rattle.rw_systems_laws.specs.Annotated.{IsRelabelledSystem, relabelled_start}
@@ -26,9 +25,9 @@ use Rattle.rw_core_flat.specs.Programs.{FlatFunction, function_at}
 use Rattle.specialise_rules.specs.Instances.{Instance, same_instance, same_list, start_from, declared_in}
 use Rattle.inline_ho_rules.specs.Meants.{Meants, no_meants, more_meants, meant_count, flats, first_meants, later_meants, Columns, no_columns, value_column, other_column, AreColumns, none_in, matched_in, named_in, ignored_in, AreMatched, none_matched, flat_matched, other_matched, AreVariables, none_variable, more_variable, declared_clauses}
 use Rattle.inline_ho_rules.specs.Flattening as f
-use Rattle.inline_ho_rules.specs.FlatPrograms.{IsOf as IsOfNumber, AreFlattened, IsPart, IsFlatProgram}
+use Rattle.inline_ho_rules.specs.FlatPrograms.{IsOf as IsOfNumber, IsPart, IsFlatProgram}
 use Rattle.inline_ho_rules.specs.TypedFlattening.{typed_binding, patterns_before, IsBody, plain_body, rows_body, none_rows, some_rows}
-use Rattle.inline_ho_rules.specs.TypedPrograms.{Origin, whole, part, parts_of, numbered_system, position, clauses_in, start_body, declared_place, origins, function_of, clauses_of, number_of, program, IsOf, IsOfDeclaration, IsOfPart, AreOf, IsFlatOf}
+use Rattle.inline_ho_rules.specs.TypedPrograms.{Origin, whole, part, parts_of, numbered_system, position, clauses_in, start_body, declared_place, origins, function_of, clauses_of, number_of, IsOf, IsOfDeclaration, AreOf, IsFlatOf}
 use Rattle.inline_ho_rules.specs.Untyped.{node_of, bare_expression, bare_clauses, bare_meant, bare_meants, clauses_declared}
 use Rattle.inline_ho_laws.proofs.Orders.{stands_all}
 use Rattle.inline_ho_laws.proofs.Bare.{bare_patterns, bare_flats}
@@ -328,9 +327,11 @@ module _ (world : World) (typed : List (Declaration TypedNode)) (instances : Lis
     system_is m (side_by_side d e) (fed_back f' g' x) q h = absurd q
     system_is m (fed_back a b d) (leaf x) q h = absurd q
     system_is m (fed_back a b d) (side_by_side x y) q h = absurd q
-    system_is m (fed_back a b d) (fed_back x y z) q h =
-        (part_at 1 m 0 (parts_of (fed_back a b d)) h a x q.0 refl m (omega arith), part_at 2 m 1 (parts_of (fed_back a b d)) h b y q.1 refl (suc m) (omega arith),
-        system_is (suc (suc m)) d z q.2 (let r : m + 2 ≡ suc (suc m) = omega arith in subst (λ z. Holds functions z (parts_of d)) r (back_holds functions m (part 1 a ∷ part 2 b ∷ []) (parts_of d) h)))
+    system_is m (fed_back a b d) (fed_back x y z) q h = (
+      part_at 1 m 0 (parts_of (fed_back a b d)) h a x q.0 refl m (omega arith),
+      part_at 2 m 1 (parts_of (fed_back a b d)) h b y q.1 refl (suc m) (omega arith),
+      system_is (suc (suc m)) d z q.2 (let r : m + 2 ≡ suc (suc m) = omega arith in subst (λ z. Holds functions z (parts_of d)) r (back_holds functions m (part 1 a ∷ part 2 b ∷ []) (parts_of d) h)),
+    )
 
 -- == Programs ==
 

@@ -1,18 +1,23 @@
 // The laws of flattening: each is the contract of a function that does nothing.
 ghost use Rattle.std.specs.Prelude.{◌≡◌, ℕ, List, [], ◌∷◌, Option, Some, map};
+ghost use Rattle.rw_scope_rules.specs.declared.binding.Binding.TheVariants.{Declared};
 ghost use Rattle.rw_scope_rules.specs.declared.binding.Bound.{Bound};
-ghost use Rattle.rw_tree.specs.Trees.{Expression, Alternatives};
+ghost use Rattle.rw_tree.specs.Trees.{Expression, variable, Alternatives};
 ghost use Rattle.rw_tree.specs.Declarations.{Declaration};
 ghost use Rattle.rw_core.specs.Values.{Val};
 ghost use Rattle.rw_core.specs.Systems.{System};
+ghost use Rattle.rw_core.specs.Traces.{End, waits, finished, Trace};
+ghost use Rattle.rw_meaning.specs.Results.{Thunk, kept, kept_call, Thunks};
+ghost use Rattle.rw_meaning.specs.Steps.{Stands, AllStand, EachStands, Acts, Traces};
 ghost use Rattle.rw_meaning.specs.Outputs.{Denotes};
 ghost use Rattle.rw_types_solving.specs.Types.{Ty};
 ghost use Rattle.rw_types_rules.specs.TypedTrees.{TypedNode, erased};
 ghost use Rattle.rw_core_flat.specs.Terms.{FlatTerm};
-ghost use Rattle.rw_core_flat.specs.Programs.{FlatFunction, FlatDenotes};
+ghost use Rattle.rw_core_flat.specs.Meaning.{valued, acting, tracing, a_value, done, traced};
+ghost use Rattle.rw_core_flat.specs.Programs.{FlatFunction, call_within, FlatDenotes};
 ghost use Rattle.inline_ho_rules.specs.Meants.{Meants};
 ghost use Rattle.inline_ho_rules.specs.Flattening.{IsFlat};
-ghost use Rattle.inline_ho_rules.specs.FlatPrograms.{IsOf, IsFlatProgram};
+ghost use Rattle.inline_ho_rules.specs.FlatPrograms.{IsOf, AreFlattened, IsFlatProgram};
 ghost use Rattle.inline_ho_rules.specs.TypedFlattening.{IsTypedFlat};
 ghost use Rattle.inline_ho_rules.specs.TypedPrograms.{IsFlatOf};
 ghost use Rattle.specialise_rules.specs.Instances.{Instance, start_from};
@@ -22,6 +27,15 @@ ghost use Rattle.inline_ho_rules.specs.Untyped.{bare_expression, bare_clauses, b
 /// What a flat program for a source denotes, the source denotes.
 pub fn flat_programs_mean_their_source()
     ensures { (program : List (Declaration Bound)) (origins : List (Option ℕ)) (functions : List FlatFunction) (system : System ℕ ℕ) → IsFlatProgram program origins functions system → (inputs outputs : List Val) → FlatDenotes functions system inputs outputs → Denotes program inputs outputs }
+{}
+
+/// And so does each flat function of a declaration: the name of the declaration, in any environment and applied to arguments that stand
+/// for the values given, stands for the value that a call gives; as a state action it does, and as a device it shows and ends, what a
+/// call does.
+pub fn flat_functions_mean_their_declarations()
+    ensures values { (program : List (Declaration Bound)) (origins : List (Option ℕ)) (functions : List FlatFunction) → AreFlattened program origins functions → (budget i n : ℕ) → IsOf origins i n → (around : Thunks) (a : Bound) (x : List ℕ) → a.bound ≡ Some (Declared n) → (vs : List Val) (ts : Thunks) → AllStand program ts vs → (v : Val) → call_within functions budget valued i vs ≡ Some (a_value v) → Stands program (kept_call (kept around (variable a x)) ts) v }
+    ensures actions { (program : List (Declaration Bound)) (origins : List (Option ℕ)) (functions : List FlatFunction) → AreFlattened program origins functions → (budget i n : ℕ) → IsOf origins i n → (around : Thunks) (a : Bound) (x : List ℕ) → a.bound ≡ Some (Declared n) → (vs : List Val) (ts : Thunks) → AllStand program ts vs → (states : List Val) (v : Val) (after : List Val) → call_within functions budget (acting states) i vs ≡ Some (done v after) → (before : Thunks) → AllStand program before states → (t : Thunk) × (left : Thunks) × Acts program (kept_call (kept around (variable a x)) ts) before t left × Stands program t v × AllStand program left after }
+    ensures devices { (program : List (Declaration Bound)) (origins : List (Option ℕ)) (functions : List FlatFunction) → AreFlattened program origins functions → (budget i n : ℕ) → IsOf origins i n → (around : Thunks) (a : Bound) (x : List ℕ) → a.bound ≡ Some (Declared n) → (vs : List Val) (ts : Thunks) → AllStand program ts vs → (states inputs outputs : List Val) (end : End Val (List Val)) → call_within functions budget (tracing states inputs) i vs ≡ Some (traced outputs end) → (before : Thunks) → AllStand program before states → (t : Trace Thunk Thunks) × Traces program (kept_call (kept around (variable a x)) ts) before inputs t × EachStands program t.outputs outputs × (end ≡ waits → t.end ≡ waits) × ((v : Val) (after left : List Val) → end ≡ finished v after left → (u : Thunk) × (rest : Thunks) × (t.end ≡ finished u rest left) × Stands program u v × AllStand program rest after) }
 {}
 
 /// With closed types at its nodes, an expression flattens to one term at most.

@@ -8,6 +8,7 @@
 mod laws;
 
 pub use laws::{
-    flat_programs_mean_their_source, flat_programs_of_typed_ones_mean_them,
-    typed_expressions_flatten_once, typed_flattening_is_flattening,
+    flat_functions_mean_their_declarations, flat_programs_mean_their_source,
+    flat_programs_of_typed_ones_mean_them, typed_expressions_flatten_once,
+    typed_flattening_is_flattening,
 };
