@@ -1,2 +1,3 @@
 -- The proof that the toggle is guarded.
 pub mod Guarding
+pub mod Flattening

@@ -1,2 +1,3 @@
 -- The programs that are worked.
 pub mod Toggle
+pub mod TypedToggle

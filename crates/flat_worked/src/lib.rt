@@ -1,8 +1,10 @@
 //! Small flat programs, on which the prover computes what the definitions of the middle's languages say.
 //!
-//! Begin with `specs/Toggle.antt`, then `toggle.rt`.
+//! Begin with `specs/Toggle.antt`, then `toggle.rt`; `specs/TypedToggle.antt` has the typed program that a toggle comes from.
 #![tactic(auto)]
 
+mod flattened;
 mod toggle;
 
+pub use flattened::{data_types_are_listed, instances_are_listed, the_toggle_flattens};
 pub use toggle::{guarded, loop_has_no_ranks, outputs};
