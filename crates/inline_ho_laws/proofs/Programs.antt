@@ -1,5 +1,6 @@
 -- The flat program of a typed program is one of the program without its types.
 use Rattle.std.proofs.Common.{◌≡◌, ℕ, zero, suc, ◌+◌, ◌≤◌, nat_eq, ◌&&◌, Bool, true, false, if◌then◌else◌, List, [], ◌∷◌, ◌++◌, map, length, Option, Some, None, refl, arith, ap, sym, ◌∙◌, subst}
+use Rattle.std.specs.List.{AllByRecursion}
 use Rattle.std.specs.Prelude.{get_or, slice_get, codes}
 use Rattle.std.specs.Option.{option_map}
 use Rattle.std.proofs.lemmas.Bool.Decides.{nat_tests}
@@ -21,14 +22,21 @@ use Rattle.rw_types_numbering.proofs.Relabelling.{twice_declaration}
 use Rattle.rw_types_instances.specs.Instances.{closed_node, in_instance}
 use Rattle.rw_systems_laws.specs.Annotated.{IsRelabelledSystem, relabelled_start}
 use Rattle.rw_systems_laws.proofs.Annotated.{system_alike, start_alike}
-use Rattle.rw_core_flat.specs.Programs.{FlatFunction, function_at}
+use Rattle.rw_core_flat.specs.Programs.{FlatFunction, function_at, FlatDenotes}
 use Rattle.specialise_rules.specs.Instances.{Instance, same_instance, same_list, start_from, declared_in}
 use Rattle.inline_ho_rules.specs.Meants.{Meants, no_meants, more_meants, meant_count, flats, first_meants, later_meants, Columns, no_columns, value_column, other_column, AreColumns, none_in, matched_in, named_in, ignored_in, AreMatched, none_matched, flat_matched, other_matched, AreVariables, none_variable, more_variable, declared_clauses}
 use Rattle.inline_ho_rules.specs.Flattening as f
 use Rattle.inline_ho_rules.specs.FlatPrograms.{IsOf as IsOfNumber, IsPart, IsFlatProgram}
 use Rattle.inline_ho_rules.specs.TypedFlattening.{typed_binding, patterns_before, IsBody, plain_body, rows_body, none_rows, some_rows}
-use Rattle.inline_ho_rules.specs.TypedPrograms.{Origin, whole, part, parts_of, numbered_system, position, clauses_in, start_body, declared_place, origins, function_of, clauses_of, number_of, IsOf, IsOfDeclaration, AreOf, IsFlatOf}
+use Rattle.inline_ho_rules.specs.TypedPrograms.{Origin, whole, part, numbers_of, parts_of, numbered_system, position, clauses_in, start_body, declared_place, origins, function_of, clauses_of, number_of, IsOf, IsOfDeclaration, AreOf, IsFlatOf}
 use Rattle.inline_ho_rules.specs.Untyped.{node_of, bare_expression, bare_clauses, bare_meant, bare_meants, clauses_declared}
+use Rattle.rw_core.specs.Values.{Val}
+use Rattle.rw_core.proofs.Eventually.{reached_once}
+use Rattle.rw_meaning.specs.Outputs.{outputs_within, Denotes}
+use Rattle.rw_core_flat.specs.WellTyped.{Sign, DataTypes, Fits}
+use Rattle.rw_guard_laws.specs.Guarded.{IsGuarded}
+use Rattle.rw_guard_laws.proofs.Outputs.{denoted as guarded}
+use Rattle.inline_ho_laws.proofs.Outputs.{denoted}
 use Rattle.inline_ho_laws.proofs.Orders.{stands_all}
 use Rattle.inline_ho_laws.proofs.Bare.{bare_patterns, bare_flats}
 use Rattle.inline_ho_laws.proofs.Forget.{forget, body_forget, placed_forget, group_bare}
@@ -116,13 +124,6 @@ start_is typed i declared start e g h =
     ap start_of (sym (all_erased [] typed)) ∙ start_alike node_of (map (in_instance []) typed) ∙ ap (option_map (relabelled_start node_of)) t
 
 -- == Positions ==
-
-abbrev pub declaration_of : Origin → Option ℕ
-declaration_of (whole j) = Some j.declaration
-declaration_of (part n e) = None
-
-abbrev pub numbers_of : List Origin → List (Option ℕ)
-numbers_of os = map declaration_of os
 
 same_number : (a b : ℕ) (c : Bool) → (nat_eq a b && c) ≡ true → b ≡ a
 same_number a b c e = grind (arith, nat_tests)
@@ -352,3 +353,13 @@ flat_of world typed i others table functions system e h =
           (system_is world typed (i ∷ others) table h.start place functions 0 (system_of typed_binding h.start.expression) (system_of binding_of (relabelled_expression node_of h.start.expression)) (system_alike node_of binding_of h.start.expression)
           (front_holds world typed (i ∷ others) table h.start place functions 0 (parts_of (system_of typed_binding h.start.expression)) _ (all_hold world typed (i ∷ others) table h.start place os functions h.made)));
     }
+
+-- == Both ways ==
+
+-- what a source denotes, a guarded flat program for it denotes
+pub denoted_by : (program : List (Declaration Bound)) (origins : List (Option ℕ)) (functions : List FlatFunction) (system : System ℕ ℕ) → IsFlatProgram program origins functions system → (types : DataTypes) (signs : ℕ → Option Sign) (i o : ℕ)
+    → IsGuarded types functions signs system i o → (inputs : List Val) → AllByRecursion (Fits types i) inputs → (outputs : List Val) → Denotes program inputs outputs → FlatDenotes functions system inputs outputs
+denoted_by program origins functions system f types signs i o g inputs h outputs d =
+    let q = guarded types functions signs system i o g inputs h in
+    let e : q.0 ≡ outputs = reached_once (λ n. outputs_within program n inputs) q.0 outputs (denoted program origins functions system f inputs q.0 q.1) d in
+    subst (FlatDenotes functions system inputs) e q.1

@@ -1,5 +1,6 @@
 // The laws of flattening: each is the contract of a function that does nothing.
-ghost use Rattle.std.specs.Prelude.{◌≡◌, ℕ, List, [], ◌∷◌, Option, Some, map};
+ghost use Rattle.std.specs.Prelude.{◌≡◌, ◌↔◌, ℕ, List, [], ◌∷◌, Option, Some, map};
+ghost use Rattle.std.specs.List.{AllByRecursion};
 ghost use Rattle.rw_scope_rules.specs.declared.binding.Binding.TheVariants.{Declared};
 ghost use Rattle.rw_scope_rules.specs.declared.binding.Bound.{Bound};
 ghost use Rattle.rw_tree.specs.Trees.{Expression, variable, Alternatives};
@@ -13,13 +14,15 @@ ghost use Rattle.rw_meaning.specs.Outputs.{Denotes};
 ghost use Rattle.rw_types_solving.specs.Types.{Ty};
 ghost use Rattle.rw_types_rules.specs.TypedTrees.{TypedNode, erased};
 ghost use Rattle.rw_core_flat.specs.Terms.{FlatTerm};
+ghost use Rattle.rw_core_flat.specs.WellTyped.{DataTypes, Fits, Sign};
+ghost use Rattle.rw_guard_laws.specs.Guarded.{IsGuarded};
 ghost use Rattle.rw_core_flat.specs.Meaning.{valued, acting, tracing, a_value, done, traced};
 ghost use Rattle.rw_core_flat.specs.Programs.{FlatFunction, call_within, FlatDenotes};
 ghost use Rattle.inline_ho_rules.specs.Meants.{Meants};
 ghost use Rattle.inline_ho_rules.specs.Flattening.{IsFlat};
 ghost use Rattle.inline_ho_rules.specs.FlatPrograms.{IsOf, AreFlattened, IsFlatProgram};
 ghost use Rattle.inline_ho_rules.specs.TypedFlattening.{IsTypedFlat};
-ghost use Rattle.inline_ho_rules.specs.TypedPrograms.{IsFlatOf};
+ghost use Rattle.inline_ho_rules.specs.TypedPrograms.{declared_place, numbers_of, origins, IsFlatOf};
 ghost use Rattle.specialise_rules.specs.Instances.{Instance, start_from};
 ghost use Rattle.rw_types_rules.specs.Schemes.{World};
 ghost use Rattle.inline_ho_rules.specs.Untyped.{bare_expression, bare_clauses, bare_meants, clauses_declared};
@@ -49,7 +52,14 @@ pub fn typed_flattening_is_flattening()
     ensures { (program : List (Declaration Bound)) (function_of : ℕ → List Ty → Option ℕ) (clauses_of : ℕ → List Ty → Option (Alternatives TypedNode)) (number_of : Ty → Option ℕ) (origins : List (Option ℕ)) → ((n i : ℕ) (arguments : List Ty) → function_of n arguments ≡ Some i → IsOf origins i n) → ((n : ℕ) (arguments : List Ty) (cs : Alternatives TypedNode) → clauses_of n arguments ≡ Some cs → clauses_declared program n ≡ Some (bare_clauses cs)) → (next : ℕ) (names arguments : Meants TypedNode) (e : Expression TypedNode) (term : FlatTerm) → IsTypedFlat program function_of clauses_of number_of next names e arguments term → IsFlat program (IsOf origins) next (bare_meants names) (bare_expression e) (bare_meants arguments) term }
 {}
 
-/// What the flat program of a typed program denotes, which begins with the instance of `start`, the program denotes without its types.
+/// The flat program of a typed program, which begins with the instance of `start`, is one for the program without its types; so what it
+/// denotes, the program denotes.
 pub fn flat_programs_of_typed_ones_mean_them()
-    ensures { (world : World) (typed : List (Declaration TypedNode)) (start : Instance) (others : List Instance) (table : List Ty) (functions : List FlatFunction) (system : System ℕ ℕ) → start_from 0 typed ≡ start ∷ [] → IsFlatOf world typed (start ∷ others) table functions system → (inputs outputs : List Val) → FlatDenotes functions system inputs outputs → Denotes (map erased typed) inputs outputs }
+    ensures is_one { (world : World) (typed : List (Declaration TypedNode)) (start : Instance) (others : List Instance) (table : List Ty) (functions : List FlatFunction) (system : System ℕ ℕ) → start_from 0 typed ≡ start ∷ [] → (flat : IsFlatOf world typed (start ∷ others) table functions system) → IsFlatProgram (map erased typed) (numbers_of (origins world typed (start ∷ others) table flat.start (declared_place flat.declared))) functions system }
+    ensures denoted { (world : World) (typed : List (Declaration TypedNode)) (start : Instance) (others : List Instance) (table : List Ty) (functions : List FlatFunction) (system : System ℕ ℕ) → start_from 0 typed ≡ start ∷ [] → IsFlatOf world typed (start ∷ others) table functions system → (inputs outputs : List Val) → FlatDenotes functions system inputs outputs → Denotes (map erased typed) inputs outputs }
+{}
+
+/// A guarded flat program and its source denote exactly the same, on values of the input type.
+pub fn guarded_programs_denote_the_same()
+    ensures { (program : List (Declaration Bound)) (origins : List (Option ℕ)) (functions : List FlatFunction) (system : System ℕ ℕ) → IsFlatProgram program origins functions system → (types : DataTypes) (signs : ℕ → Option Sign) (i o : ℕ) → IsGuarded types functions signs system i o → (inputs : List Val) → AllByRecursion (Fits types i) inputs → (outputs : List Val) → Denotes program inputs outputs ↔ FlatDenotes functions system inputs outputs }
 {}

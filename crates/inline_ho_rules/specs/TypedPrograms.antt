@@ -54,6 +54,14 @@ pub data Origin : Type 0 where
   whole : Instance → Origin
   part : ℕ → Expression TypedNode → Origin
 
+-- the declaration that it is for, by its number
+abbrev pub declaration_of : Origin → Option ℕ
+declaration_of (whole j) = Some j.declaration
+declaration_of (part n e) = None
+
+abbrev pub numbers_of : List Origin → List (Option ℕ)
+numbers_of os = map declaration_of os
+
 -- the parts of a system, in the order of the source
 abbrev pub parts_of : System (Expression TypedNode) (Expression TypedNode) → List Origin
 parts_of (leaf e) = part 0 e ∷ []

@@ -3,4 +3,4 @@ mod Parts
 mod Answering
 mod Total
 mod Ends
-mod Outputs
+pub mod Outputs
