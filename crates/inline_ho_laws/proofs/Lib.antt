@@ -11,3 +11,4 @@ pub mod Orders
 pub mod Bare
 pub mod Forget
 pub mod Programs
+pub mod OneProgram

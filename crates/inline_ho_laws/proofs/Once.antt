@@ -118,7 +118,7 @@ module _ (program : List (Declaration Bound)) (function_of : ℕ → List Ty →
     params_once (function_param e f) (data_param {m = m} e' i' g) = absurd (clash (is_datum m) e' e)
     params_once (function_param e f) (function_param e' g) = let s = params_once f g in let s2 = s.2 in (s.0, s.1, cc, s.3)
 
-    body_once : {d : ℕ} {E ps args : Meants TypedNode} {cs : Alternatives TypedNode} {t u : FlatTerm} → IsBody program function_of clauses_of number_of d E cs ps args t → IsBody program function_of clauses_of number_of d E cs ps args u → t ≡ u
+    pub body_once : {d : ℕ} {E ps args : Meants TypedNode} {cs : Alternatives TypedNode} {t u : FlatTerm} → IsBody program function_of clauses_of number_of d E cs ps args t → IsBody program function_of clauses_of number_of d E cs ps args u → t ≡ u
     body_once (plain_body {E = E} {params = ps} {args = args} {e = e} v f k) (plain_body {t = u} v' g l) =
         let r = placed_once f g in let r0 = r.0 in let s = flat_once k (subst₂ (λ z w. IsTypedFlat program function_of clauses_of number_of z (joined_meants (joined_meants E ps) w) e args u) (sym r.1) (sym r.2) l) in cc
     body_once (plain_body {pats = pats} v f k) (rows_body e m l) = absurd (clash (are_variables pats) (all_variables v) e)
@@ -142,7 +142,7 @@ module _ (program : List (Declaration Bound)) (function_of : ℕ → List Ty →
     guarded_once none_guarded none_guarded = refl
     guarded_once (some_guarded f k m) (some_guarded g l n) = let r = flat_once f g in let s = flat_once k l in let v = guarded_once m n in cc
 
-    placed_once : {group : LocalBindings TypedNode} {order : List (Numbered TypedNode)} {d : ℕ} {E ms : Meants TypedNode} {lets lets' : FlatLets} {d' d'' : ℕ} {ns ns' : Meants TypedNode} → IsPlaced program function_of clauses_of number_of group order d E ms lets d' ns → IsPlaced program function_of clauses_of number_of group order d E ms lets' d'' ns'
+    pub placed_once : {group : LocalBindings TypedNode} {order : List (Numbered TypedNode)} {d : ℕ} {E ms : Meants TypedNode} {lets lets' : FlatLets} {d' d'' : ℕ} {ns ns' : Meants TypedNode} → IsPlaced program function_of clauses_of number_of group order d E ms lets d' ns → IsPlaced program function_of clauses_of number_of group order d E ms lets' d'' ns'
         → (lets ≡ lets') × (d' ≡ d'') × (ns ≡ ns')
     placed_once all_placed all_placed = (refl, refl, refl)
     placed_once (signature_placed f) (signature_placed g) = placed_once f g

@@ -63,3 +63,8 @@ pub fn flat_programs_of_typed_ones_mean_them()
 pub fn guarded_programs_denote_the_same()
     ensures { (program : List (Declaration Bound)) (origins : List (Option ℕ)) (functions : List FlatFunction) (system : System ℕ ℕ) → IsFlatProgram program origins functions system → (types : DataTypes) (signs : ℕ → Option Sign) (i o : ℕ) → IsGuarded types functions signs system i o → (inputs : List Val) → AllByRecursion (Fits types i) inputs → (outputs : List Val) → Denotes program inputs outputs ↔ FlatDenotes functions system inputs outputs }
 {}
+
+/// The instances of a typed program have one table of data types, one list of flat functions and one system at most.
+pub fn instances_have_one_flat_program()
+    ensures { (world : World) (typed : List (Declaration TypedNode)) (instances : List Instance) (first second : List Ty) (functions others : List FlatFunction) (system another : System ℕ ℕ) → IsFlatOf world typed instances first functions system → IsFlatOf world typed instances second others another → (first ≡ second) × (functions ≡ others) × (system ≡ another) }
+{}

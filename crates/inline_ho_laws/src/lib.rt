@@ -10,5 +10,6 @@ mod laws;
 pub use laws::{
     flat_functions_mean_their_declarations, flat_programs_mean_their_source,
     flat_programs_of_typed_ones_mean_them, guarded_programs_denote_the_same,
-    typed_expressions_flatten_once, typed_flattening_is_flattening,
+    instances_have_one_flat_program, typed_expressions_flatten_once,
+    typed_flattening_is_flattening,
 };
