@@ -1,3 +1,4 @@
 -- The proof that the toggle is guarded.
 pub mod Guarding
 pub mod Flattening
+pub mod Weighing

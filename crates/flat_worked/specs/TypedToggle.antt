@@ -4,7 +4,7 @@
 --     flip b = case b of { Zero -> One ; One -> Zero }
 --     device x = signal x >>= \i -> device (flip i)
 --     start = device Zero
-use Rattle.std.specs.Prelude.{ℕ, suc, List, [], ◌∷◌, codes, Option, Some, None}
+use Rattle.std.specs.Prelude.{ℕ, zero, suc, Bool, true, false, List, [], ◌∷◌, codes, Option, Some, None}
 use Rattle.rw_scope_rules.specs.declared.binding.Binding.{Binding}
 use Rattle.rw_scope_rules.specs.declared.binding.Binding.TheVariants.{Declared, Operation as Operates, Constructor as Constructs, Local}
 use Rattle.rw_scope_rules.specs.declared.binding.Operation.TheVariants.{Bind, Signal}
@@ -136,3 +136,22 @@ flat_flip = record {
 
 abbrev pub functions : List FlatFunction
 functions = flat_start ∷ flat_device ∷ flat_flip ∷ []
+
+-- == What it weighs ==
+
+-- the functions that must signal: `start` and `device`
+abbrev pub signalling : ℕ → Bool
+signalling zero = true
+signalling (suc zero) = true
+signalling (suc (suc i)) = false
+
+-- the weights of `start`, `device` and `flip`: their nodes, the weight of who is called without a guard, and 1 for each guarded call
+abbrev pub weights : ℕ → ℕ
+weights zero = 10
+weights (suc zero) = 8
+weights (suc (suc i)) = 6
+
+abbrev pub depths : ℕ → ℕ
+depths zero = 5
+depths (suc zero) = 4
+depths (suc (suc i)) = 2

@@ -6,5 +6,7 @@
 mod flattened;
 mod toggle;
 
-pub use flattened::{data_types_are_listed, instances_are_listed, the_toggle_flattens};
+pub use flattened::{
+    data_types_are_listed, instances_are_listed, the_toggle_flattens, the_toggle_is_weighed,
+};
 pub use toggle::{guarded, loop_has_no_ranks, outputs};
