@@ -5,15 +5,19 @@ use Rattle.std.specs.Prelude.{get_or, slice_get, codes}
 use Rattle.std.specs.Option.{option_map}
 use Rattle.std.proofs.lemmas.Bool.Decides.{nat_tests}
 use Rattle.rw_base.specs.declared.place.Place.{Place}
+use Rattle.rw_scope_rules.specs.declared.binding.Operation.TheVariants.{Return, Bind, Then, Get, Put, Lift, Signal, Extrude, Par, Refold}
+use Rattle.rw_scope_rules.specs.declared.binding.Binding.{Binding}
+use Rattle.rw_scope_rules.specs.declared.binding.Binding.TheVariants.{Declared, Operation as Operates, Constructor as Constructs, Local}
 use Rattle.rw_scope_rules.specs.declared.binding.Bound.{Bound}
 use Rattle.rw_scope_rules.specs.Names.{is_among as is_named}
 use Rattle.rw_tree.specs.Patterns.{Pattern}
-use Rattle.rw_tree.specs.Trees.{Expression, Alternative, Alternatives, more_alternatives, alternative_parts}
+use Rattle.rw_tree.specs.Trees.{Expression, variable, constructor, application, tuple, chain, lambda, let_in, if_then_else, case_of, do_block}
+use Rattle.rw_tree.specs.Trees.{Alternative, alternative, Alternatives, more_alternatives, alternative_parts, plain_side, guarded_side}
 use Rattle.rw_tree.specs.Declarations.{Declaration, import_declaration, data_declaration, fixity_declaration, signature_declaration, function_declaration}
 use Rattle.rw_core.specs.Options.{◌>>=◌}
 use Rattle.rw_core.specs.Systems.{System, leaf, side_by_side, fed_back, AreAlike}
 use Rattle.rw_meaning.specs.Evaluation.{declaration_at, patterns_before as bare_patterns_before}
-use Rattle.rw_meaning.specs.Systems.{Body, binding_of, start_of, system_of}
+use Rattle.rw_meaning.specs.Systems.{Body, binding_of, body_of, start_of, system_of, operated, system_with, with_systems}
 use Rattle.rw_types_solving.specs.Types.{Ty}
 use Rattle.rw_types_rules.specs.Schemes.{World}
 use Rattle.rw_types_rules.specs.TypedTrees.{TypedNode, erased}
@@ -28,11 +32,12 @@ use Rattle.inline_ho_rules.specs.Meants.{Meants, no_meants, more_meants, meant_c
 use Rattle.inline_ho_rules.specs.Flattening as f
 use Rattle.inline_ho_rules.specs.FlatPrograms.{IsOf as IsOfNumber, IsPart, IsFlatProgram}
 use Rattle.inline_ho_rules.specs.TypedFlattening.{typed_binding, patterns_before, IsBody, plain_body, rows_body, none_rows, some_rows}
-use Rattle.inline_ho_rules.specs.TypedPrograms.{Origin, whole, part, numbers_of, parts_of, numbered_system, position, clauses_in, start_body, declared_place, origins, function_of, clauses_of, number_of, IsOf, IsOfDeclaration, AreOf, IsFlatOf}
+use Rattle.inline_ho_rules.specs.TypedPrograms.{Origin, whole, part, numbers_of, parts_of, numbered_system, position, clauses_in, start_body, declared_place, origins, named_origins, named_first, others_of, function_of, clauses_of, number_of, IsOf, IsOfDeclaration, AreOf, IsFlatOf}
 use Rattle.inline_ho_rules.specs.Untyped.{node_of, bare_expression, bare_clauses, bare_meant, bare_meants, clauses_declared}
 use Rattle.rw_core.specs.Values.{Val}
 use Rattle.rw_core.proofs.Eventually.{reached_once}
 use Rattle.rw_meaning.specs.Outputs.{outputs_within, Denotes}
+use Rattle.rw_core_flat.specs.Terms.{let_term}
 use Rattle.rw_core_flat.specs.WellTyped.{Sign, DataTypes, Fits}
 use Rattle.rw_guard_laws.specs.Guarded.{IsGuarded}
 use Rattle.rw_guard_laws.proofs.Outputs.{denoted as guarded}
@@ -194,6 +199,56 @@ bare_later zero ms = refl
 bare_later (suc n) no_meants = refl
 bare_later (suc n) (more_meants m ms) = bare_later n ms
 
+-- == One device by itself ==
+
+abbrev LeafIs : {A : Type 0} → Expression A → System (Expression A) (Expression A) → Type 0
+LeafIs x (leaf e) = e ≡ x
+LeafIs x (side_by_side d e) = Unit {0}
+LeafIs x (fed_back f g d) = Unit {0}
+
+operated_leaf : (x : Expression TypedNode) (b : Option Binding) (us : List (Expression TypedNode × System (Expression TypedNode) (Expression TypedNode))) → LeafIs x (operated x b us)
+operated_leaf x None us = refl
+operated_leaf x (Some (Declared n)) us = refl
+operated_leaf x (Some (Constructs n p)) us = refl
+operated_leaf x (Some (Local k)) us = refl
+operated_leaf x (Some (Operates Return)) us = refl
+operated_leaf x (Some (Operates Bind)) us = refl
+operated_leaf x (Some (Operates Then)) us = refl
+operated_leaf x (Some (Operates Get)) us = refl
+operated_leaf x (Some (Operates Put)) us = refl
+operated_leaf x (Some (Operates Lift)) us = refl
+operated_leaf x (Some (Operates Signal)) us = refl
+operated_leaf x (Some (Operates Extrude)) us = refl
+operated_leaf x (Some (Operates Par)) [] = refl
+operated_leaf x (Some (Operates Par)) (a ∷ []) = refl
+operated_leaf x (Some (Operates Par)) (a ∷ b ∷ []) = tt
+operated_leaf x (Some (Operates Par)) (a ∷ b ∷ c ∷ us) = refl
+operated_leaf x (Some (Operates Refold)) [] = refl
+operated_leaf x (Some (Operates Refold)) (a ∷ []) = refl
+operated_leaf x (Some (Operates Refold)) (a ∷ b ∷ []) = refl
+operated_leaf x (Some (Operates Refold)) (a ∷ b ∷ c ∷ []) = tt
+operated_leaf x (Some (Operates Refold)) (a ∷ b ∷ c ∷ d ∷ us) = refl
+
+leaf_is_whole : (x e : Expression TypedNode) (us : List (Expression TypedNode × System (Expression TypedNode) (Expression TypedNode))) → LeafIs x (system_with typed_binding x e us)
+leaf_is_whole x (application a head parts) us = leaf_is_whole x head (with_systems typed_binding parts us)
+leaf_is_whole x (variable a y) us = operated_leaf x (typed_binding a) us
+leaf_is_whole x (constructor a c) us = refl
+leaf_is_whole x (tuple a parts) us = refl
+leaf_is_whole x (chain a operands operators) us = refl
+leaf_is_whole x (lambda a pats body) us = refl
+leaf_is_whole x (let_in a group body) us = refl
+leaf_is_whole x (if_then_else a test first second) us = refl
+leaf_is_whole x (case_of a scrutinee rows) us = refl
+leaf_is_whole x (do_block a steps) us = refl
+
+-- the one clause of a body
+one_clause : (clauses : List (Alternative TypedNode)) (start : Body TypedNode) → body_of clauses ≡ Some start → (a : TypedNode) × (clauses ≡ alternative a [] (plain_side start.expression) start.wheres ∷ [])
+one_clause [] start e = absurd (cc)
+one_clause (alternative a [] (plain_side x) wheres ∷ []) start e = let k : record { expression = x; wheres = wheres } ≡ start = cc in (a, ap (λ z. alternative a [] (plain_side z.expression) z.wheres ∷ []) k)
+one_clause (alternative a [] (plain_side x) wheres ∷ c ∷ cs) start e = absurd (cc)
+one_clause (alternative a [] (guarded_side bodies) wheres ∷ cs) start e = absurd (cc)
+one_clause (alternative a (p ∷ ps) side wheres ∷ cs) start e = absurd (cc)
+
 -- == Functions at their places ==
 
 get_front : {A : Type 0} (xs ys : List A) (k : ℕ) (x : A) → slice_get xs k ≡ Some x → slice_get (xs ++ ys) k ≡ Some x
@@ -207,7 +262,7 @@ get_back (x ∷ xs) ys k = ap (slice_get (x ∷ (xs ++ ys))) (let e : suc (lengt
 
 module _ (world : World) (typed : List (Declaration TypedNode)) (instances : List Instance) (table : List Ty) (start : Body TypedNode) (place : Place) where
   abbrev all : List Origin
-  all = origins world typed instances table start place
+  all = named_origins world typed instances table start place
 
   abbrev Of : Origin → FlatFunction → Type 0
   Of o g = IsOf world typed instances table start place o g
@@ -290,6 +345,34 @@ module _ (world : World) (typed : List (Declaration TypedNode)) (instances : Lis
         },
       )
 
+  -- where `start` is one device by itself, its function is that of its clauses
+  start_whole : (i : Instance) (declared : Declaration TypedNode) → declared_in typed i ≡ Some declared → start_body declared ≡ Some start → (e : Expression TypedNode) → e ≡ start.expression → (g : FlatFunction) → Of (part 0 e) g
+      → (cs : Alternatives Bound) × ((declaration_at i.declaration bare >>= declared_clauses) ≡ Some cs) × f.IsWhole bare (IsOfNumber numbers) cs g
+  start_whole i (import_declaration a m) h k e q g o = absurd (cc)
+  start_whole i (data_declaration a x params constructors) h k e q g o = absurd (cc)
+  start_whole i (fixity_declaration a side strength names) h k e q g o = absurd (cc)
+  start_whole i (signature_declaration a names type) h k e q g o = absurd (cc)
+  start_whole i (function_declaration a x clauses) h k e q g o =
+      let c = one_clause clauses start k in
+      let one = alternative c.0 [] (plain_side start.expression) start.wheres ∷ [] in
+      let d : clauses_declared bare i.declaration ≡ Some (bare_clauses (alternative_parts clauses)) = clauses_are_declared typed i.declaration i.arguments (alternative_parts clauses) (ap clauses_in h) in
+      let r = o.3 in
+      let placed =
+      group_bare bare fo co no (IsOfNumber numbers) (λ n i us. position_is_of all n us i) (λ n us cs. clauses_are_declared typed n us cs) start.wheres
+      (placed_forget bare fo co no (IsOfNumber numbers) (λ n i us. position_is_of all n us i) (λ n us cs. clauses_are_declared typed n us cs) start.wheres r.placed (stands_all start.wheres)) in
+      let flattened =
+      subst (λ z. f.IsFlat bare (IsOfNumber numbers) r.next (bare_meants r.inside) (bare_expression z) no_meants r.term) q
+      (forget bare fo co no (IsOfNumber numbers) (λ n i us. position_is_of all n us i) (λ n us cs. clauses_are_declared typed n us cs) r.flattened) in
+      let body : f.IsBody bare (IsOfNumber numbers) 0 no_meants (bare_clauses (alternative_parts one)) no_meants no_meants (let_term r.lets r.term) = f.plain_body none_variable placed flattened in
+      let moved : f.IsBody bare (IsOfNumber numbers) 0 no_meants (bare_clauses (alternative_parts one)) no_meants no_meants g.body = subst (λ z. f.IsBody bare (IsOfNumber numbers) 0 no_meants (bare_clauses (alternative_parts one)) no_meants no_meants z) (sym r.body) body in (
+        bare_clauses (alternative_parts one),
+        subst (λ z. clauses_declared bare i.declaration ≡ Some (bare_clauses (alternative_parts z))) c.1 d,
+        record {
+          patterned = omega arith;
+          flattened = subst (λ z. f.IsBody bare (IsOfNumber numbers) z no_meants (bare_clauses (alternative_parts one)) no_meants (flats 0 z) g.body) (sym r.counted) moved;
+        },
+      )
+
   module _ (functions : List FlatFunction) where
     abbrev BarePart : ℕ → ℕ → Expression Bound → Type 0
     BarePart n i e = IsPart bare numbers functions (relabelled_group node_of start.wheres) n i e
@@ -336,20 +419,45 @@ module _ (world : World) (typed : List (Declaration TypedNode)) (instances : Lis
 
 -- == Programs ==
 
+module _ (world : World) (typed : List (Declaration TypedNode)) (i : Instance) (others : List Instance) (table : List Ty) (start : Body TypedNode) (place : Place) (declared : Declaration TypedNode) (first : declared_in typed i ≡ Some declared)
+    (found : start_body declared ≡ Some start) where
+  abbrev rest : List Origin
+  rest = others_of world typed (i ∷ others) table start place (i ∷ others)
+
+  abbrev Wholly : ℕ → FlatFunction → Type 0
+  Wholly n g =
+      (cs : Alternatives Bound) × ((declaration_at n (map erased typed) >>= declared_clauses) ≡ Some cs)
+      × f.IsWhole (map erased typed) (IsOfNumber (numbers_of (named_origins world typed (i ∷ others) table start place))) cs g
+
+  by_origin : (os : List Origin) (functions : List FlatFunction) → AreOf world typed (i ∷ others) table start place os functions → (k n : ℕ) (g : FlatFunction) → function_at k functions ≡ Some g → get_or (numbers_of os) k None ≡ Some n → Wholly n g
+  by_origin os functions h k n g at of =
+      let r = at_origin world typed (i ∷ others) table start place os functions h k n g at of in
+      of_clauses world typed (i ∷ others) table start place n r.instance_of r.is g (declared_in typed r.instance_of) refl r.of_it
+
+  each_whole : (s : System (Expression TypedNode) (Expression TypedNode)) → LeafIs start.expression s → (functions : List FlatFunction) → AreOf world typed (i ∷ others) table start place (parts_of s ++ rest) functions → (k n : ℕ) (g : FlatFunction)
+      → function_at k functions ≡ Some g → get_or (numbers_of (named_first s (i ∷ others) ++ rest)) k None ≡ Some n → Wholly n g
+  each_whole (leaf e) q [] h k n g at of = absurd h
+  each_whole (leaf e) q (g' ∷ gs) h zero n g at of =
+      let r : g' ≡ g = cc in let m : i.declaration ≡ n = cc in
+      subst (λ z. Wholly z g) m (subst (λ z. Wholly i.declaration z) r (start_whole world typed (i ∷ others) table start place i declared first found e q g' h.0))
+  each_whole (leaf e) q (g' ∷ gs) h (suc k) n g at of = by_origin rest gs h.1 k n g at of
+  each_whole (side_by_side d e) q functions h k n g at of = by_origin (parts_of (side_by_side d e) ++ rest) functions h k n g at of
+  each_whole (fed_back a b d) q functions h k n g at of = by_origin (parts_of (fed_back a b d) ++ rest) functions h k n g at of
+
 pub flat_of : (world : World) (typed : List (Declaration TypedNode)) (i : Instance) (others : List Instance) (table : List Ty) (functions : List FlatFunction) (system : System ℕ ℕ) → start_from 0 typed ≡ i ∷ []
-    → (h : IsFlatOf world typed (i ∷ others) table functions system) → IsFlatProgram (map erased typed) (numbers_of (origins world typed (i ∷ others) table h.start (declared_place h.declared))) functions system
+    → (h : IsFlatOf world typed (i ∷ others) table functions system) → IsFlatProgram (map erased typed) (numbers_of (named_origins world typed (i ∷ others) table h.start (declared_place h.declared))) functions system
 flat_of world typed i others table functions system e h =
     let place = declared_place h.declared in
     let os = origins world typed (i ∷ others) table h.start place in
+    let ns = numbers_of (named_origins world typed (i ∷ others) table h.start place) in
     record {
       flattened = record {
-        each_is = λ k n g at of. let r = at_origin world typed (i ∷ others) table h.start place os functions h.made k n g at of in
-            of_clauses world typed (i ∷ others) table h.start place n r.instance_of r.is g (declared_in typed r.instance_of) refl r.of_it;
+        each_is = λ k n g at of. each_whole world typed i others table h.start place h.declared h.first h.found (system_of typed_binding h.start.expression) (leaf_is_whole h.start.expression h.start.expression []) functions h.made k n g at of;
       };
       start = relabelled_start node_of h.start;
       found = start_is typed i h.declared h.start e h.first h.found;
-      parts = subst (λ z. AreAlike (IsPart (map erased typed) (numbers_of os) functions (relabelled_group node_of h.start.wheres) 0) (IsPart (map erased typed) (numbers_of os) functions (relabelled_group node_of h.start.wheres) 1)
-          (IsPart (map erased typed) (numbers_of os) functions (relabelled_group node_of h.start.wheres) 2) z (system_of binding_of (relabelled_expression node_of h.start.expression))) (sym h.numbered)
+      parts = subst (λ z. AreAlike (IsPart (map erased typed) ns functions (relabelled_group node_of h.start.wheres) 0) (IsPart (map erased typed) ns functions (relabelled_group node_of h.start.wheres) 1)
+          (IsPart (map erased typed) ns functions (relabelled_group node_of h.start.wheres) 2) z (system_of binding_of (relabelled_expression node_of h.start.expression))) (sym h.numbered)
           (system_is world typed (i ∷ others) table h.start place functions 0 (system_of typed_binding h.start.expression) (system_of binding_of (relabelled_expression node_of h.start.expression)) (system_alike node_of binding_of h.start.expression)
           (front_holds world typed (i ∷ others) table h.start place functions 0 (parts_of (system_of typed_binding h.start.expression)) _ (all_hold world typed (i ∷ others) table h.start place os functions h.made)));
     }

@@ -22,7 +22,7 @@ ghost use Rattle.inline_ho_rules.specs.Meants.{Meants};
 ghost use Rattle.inline_ho_rules.specs.Flattening.{IsFlat};
 ghost use Rattle.inline_ho_rules.specs.FlatPrograms.{IsOf, AreFlattened, IsFlatProgram};
 ghost use Rattle.inline_ho_rules.specs.TypedFlattening.{IsTypedFlat};
-ghost use Rattle.inline_ho_rules.specs.TypedPrograms.{declared_place, numbers_of, origins, IsFlatOf};
+ghost use Rattle.inline_ho_rules.specs.TypedPrograms.{declared_place, named_origins, numbers_of, IsFlatOf};
 ghost use Rattle.specialise_rules.specs.Instances.{Instance, start_from};
 ghost use Rattle.rw_types_rules.specs.Schemes.{World};
 ghost use Rattle.inline_ho_rules.specs.Untyped.{bare_expression, bare_clauses, bare_meants, clauses_declared};
@@ -55,7 +55,7 @@ pub fn typed_flattening_is_flattening()
 /// The flat program of a typed program, which begins with the instance of `start`, is one for the program without its types; so what it
 /// denotes, the program denotes.
 pub fn flat_programs_of_typed_ones_mean_them()
-    ensures is_one { (world : World) (typed : List (Declaration TypedNode)) (start : Instance) (others : List Instance) (table : List Ty) (functions : List FlatFunction) (system : System ℕ ℕ) → start_from 0 typed ≡ start ∷ [] → (flat : IsFlatOf world typed (start ∷ others) table functions system) → IsFlatProgram (map erased typed) (numbers_of (origins world typed (start ∷ others) table flat.start (declared_place flat.declared))) functions system }
+    ensures is_one { (world : World) (typed : List (Declaration TypedNode)) (start : Instance) (others : List Instance) (table : List Ty) (functions : List FlatFunction) (system : System ℕ ℕ) → start_from 0 typed ≡ start ∷ [] → (flat : IsFlatOf world typed (start ∷ others) table functions system) → IsFlatProgram (map erased typed) (numbers_of (named_origins world typed (start ∷ others) table flat.start (declared_place flat.declared))) functions system }
     ensures denoted { (world : World) (typed : List (Declaration TypedNode)) (start : Instance) (others : List Instance) (table : List Ty) (functions : List FlatFunction) (system : System ℕ ℕ) → start_from 0 typed ≡ start ∷ [] → IsFlatOf world typed (start ∷ others) table functions system → (inputs outputs : List Val) → FlatDenotes functions system inputs outputs → Denotes (map erased typed) inputs outputs }
 {}
 

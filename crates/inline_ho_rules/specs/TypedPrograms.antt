@@ -68,6 +68,11 @@ parts_of (leaf e) = part 0 e ∷ []
 parts_of (side_by_side d e) = parts_of d ++ parts_of e
 parts_of (fed_back f g d) = part 1 f ∷ part 2 g ∷ parts_of d
 
+-- what the functions of `start` are named by: its instance, which is the first, where it is one device by itself
+abbrev pub named_first : System (Expression TypedNode) (Expression TypedNode) → List Instance → List Origin
+named_first (leaf e) (i ∷ is) = whole i ∷ []
+named_first s is = parts_of s
+
 -- the system with the numbers of its parts, from this number on
 abbrev pub numbered_system : ℕ → System (Expression TypedNode) (Expression TypedNode) → System ℕ ℕ
 numbered_system n (leaf e) = leaf n
@@ -119,8 +124,12 @@ module _ (world : World) (typed : List (Declaration TypedNode)) (instances : Lis
     abbrev pub origins : List Origin
     origins = parts_of (system_of typed_binding start.expression) ++ others_of instances
 
+    -- the same as they are named: where `start` is one device by itself, its function is that of its instance
+    abbrev pub named_origins : List Origin
+    named_origins = named_first (system_of typed_binding start.expression) instances ++ others_of instances
+
     abbrev pub function_of : ℕ → List Ty → Option ℕ
-    function_of n arguments = position 0 origins (record { declaration = n; arguments = arguments })
+    function_of n arguments = position 0 named_origins (record { declaration = n; arguments = arguments })
 
     abbrev pub clauses_of : ℕ → List Ty → Option (Alternatives TypedNode)
     clauses_of n arguments = clauses_in (declared_in typed (record { declaration = n; arguments = arguments }))
