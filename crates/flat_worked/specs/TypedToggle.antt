@@ -41,13 +41,13 @@ at token bound type = record {
 
 -- == The program ==
 
-abbrev pub row : ℕ → ℕ → ℕ → Alternative TypedNode
-row token tag other =
+abbrev pub turning : ℕ → ℕ → ℕ → Alternative TypedNode
+turning token tag other =
     alternative (at token None (function bit bit)) (constructor_pattern (at token (Some (Constructs 0 tag)) bit) (codes "") no_patterns ∷ [])
     (plain_side (constructor (at token (Some (Constructs 0 other)) bit) (codes ""))) no_bindings
 
 abbrev pub flip_body : Expression TypedNode
-flip_body = case_of (at 1 None bit) (variable (at 2 (Some (Local 0)) bit) (codes "b")) (more_alternatives (row 3 0 1) (more_alternatives (row 4 1 0) no_alternatives))
+flip_body = case_of (at 1 None bit) (variable (at 2 (Some (Local 0)) bit) (codes "b")) (more_alternatives (turning 3 0 1) (more_alternatives (turning 4 1 0) no_alternatives))
 
 abbrev pub flip_declared : Declaration TypedNode
 flip_declared = function_declaration (at 0 (Some (Declared 1)) (function bit bit)) (codes "flip") (

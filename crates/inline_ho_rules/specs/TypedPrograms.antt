@@ -5,7 +5,7 @@ use Rattle.rw_base.specs.declared.place.Place.{Place}
 use Rattle.rw_scope_rules.specs.declared.binding.Bound.{Bound}
 use Rattle.rw_tree.specs.Trees.{Expression, Alternatives, alternative_parts}
 use Rattle.rw_tree.specs.Declarations.{Declaration, function_declaration}
-use Rattle.rw_core.specs.Options.{◌>>=◌}
+use Rattle.rw_core.specs.Options.{◌>>=◌, each}
 use Rattle.rw_core.specs.Systems.{System, leaf, side_by_side, fed_back}
 use Rattle.rw_meaning.specs.Systems.{Body, body_of, system_of}
 use Rattle.rw_types_solving.specs.declared.term.Head.TheVariants as h
@@ -27,25 +27,20 @@ abbrev pub layers_of : Ty → List Ty
 layers_of (app h.Layer (more (app h.StateT (more s none)) (more m none))) = s ∷ layers_of m
 layers_of _ = []
 
--- numbers of all of these, if each has one
-abbrev pub all_of : {A B : Type 0} → (A → Option B) → List A → Option (List B)
-all_of f [] = Some []
-all_of f (x ∷ xs) = do y ← f x; ys ← all_of f xs; Some (y ∷ ys)
-
 module _ (number_of : Ty → Option ℕ) where
   abbrev pub state_kind : Ty → Ty → Option (FunctionKind × ℕ)
-  state_kind monad made = do layers ← all_of number_of (layers_of monad); n ← number_of made; Some (state layers, n)
+  state_kind monad made = do layers ← each number_of (layers_of monad); n ← number_of made; Some (state layers, n)
 
   -- what it computes, and the type of its value
   abbrev pub kind_of : Ty → Option (FunctionKind × ℕ)
   kind_of (app h.Comp (more (app h.Layer (more (app h.ReT (more i (more o none))) (more m none))) (more made none))) =
-      do in_type ← number_of i; out_type ← number_of o; layers ← all_of number_of (layers_of m); n ← number_of made; Some (device in_type out_type layers, n)
+      do in_type ← number_of i; out_type ← number_of o; layers ← each number_of (layers_of m); n ← number_of made; Some (device in_type out_type layers, n)
   kind_of (app h.Comp (more monad (more made none))) = state_kind monad made
   kind_of t = do n ← number_of t; Some (pure, n)
 
   -- a flat function is of this type: of its parameters, of what it computes, and of its value
   abbrev pub IsOfType : Ty → FlatFunction → Type 0
-  IsOfType t f = (all_of number_of (parameters_of t) ≡ Some f.params) × (kind_of (result_of t) ≡ Some (f.kind, f.result))
+  IsOfType t f = (each number_of (parameters_of t) ≡ Some f.params) × (kind_of (result_of t) ≡ Some (f.kind, f.result))
 
 -- == Functions ==
 

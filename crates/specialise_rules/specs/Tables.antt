@@ -17,12 +17,6 @@ abbrev pub listed : Tys → List Ty
 listed none = []
 listed (more t ts) = t ∷ listed ts
 
--- a data type by itself, as a list
-abbrev pub itself_if_data : Ty → List Ty
-itself_if_data (app (h.Data n) ts) = app (h.Data n) ts ∷ []
-itself_if_data (app h.Tuple ts) = app h.Tuple ts ∷ []
-itself_if_data _ = []
-
 -- the data types that stand in a type and in no data type in it, from left to right
 abbrev mutual
   pub data_in : Ty → List Ty
