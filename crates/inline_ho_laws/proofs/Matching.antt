@@ -6,12 +6,12 @@ use Rattle.rw_scope_rules.specs.declared.binding.Binding.TheVariants.{Constructo
 use Rattle.rw_scope_rules.specs.declared.binding.Bound.{Bound}
 use Rattle.rw_tree.specs.Patterns.{Pattern, constructor_pattern, tuple_pattern, Patterns}
 use Rattle.rw_tree.specs.Declarations.{Declaration}
-use Rattle.rw_core.specs.Values.{Val, Vals, val, none, more}
-use Rattle.rw_meaning.specs.Options.{Tried, passed_over, taken, and_try, tried}
+use Rattle.rw_core.specs.Values.{Val, Vals, val, none, more, vals}
+use Rattle.rw_meaning.specs.Options.{Tried, stuck, passed_over, taken, and_try, tried}
 use Rattle.rw_meaning.specs.Results.{Outcome, datum, Thunk, Thunks, nothing, and_then, joined}
 use Rattle.rw_meaning.specs.Evaluation.{force, result_within, match, match_parts, match_row, fields_if, fields_of}
 use Rattle.rw_core_flat.specs.Terms.{FlatPattern, built_pattern, FlatPatterns}
-use Rattle.rw_core_flat.specs.Meaning.{matched, parts_matched, row_matched}
+use Rattle.rw_core_flat.specs.Meaning.{are_as_many, matched, parts_matched, row_matched}
 use Rattle.inline_ho_rules.specs.Meants.{Meant, Meants, no_meants, more_meants, joined_meants, flats, IsPattern, is_any, is_variable, is_built, is_tuple, ArePatterns, none_are, more_are, Columns, no_columns, value_column, other_column, AreColumns, none_in, matched_in, named_in, ignored_in}
 use Rattle.rw_core.specs.Eventually.{Eventually}
 use Rattle.rw_core.proofs.Eventually.{always, mapped, mapped_two}
@@ -70,17 +70,25 @@ module _ (program : List (Declaration Bound)) where
   abbrev matching_parts : Patterns Bound → Thunks → ℕ → Tried Thunks
   matching_parts ps ts b = match_parts program (result_within program b) ps ts
 
+  -- where the number of fields is asked first, less is matched
+  abbrev counted_match : FlatPatterns → Vals → Tried (List Val)
+  counted_match pats fields = if are_as_many pats fields then parts_matched pats fields else stuck
+
+  counted : {P : Type 0} {Q : List Val → Type 0} (b : Bool) (x : Tried (List Val)) → Whichever x P Q → Whichever (if b then x else stuck) P Q
+  counted true x h = h
+  counted false x h = tt
+
   -- the cases of a tag, by the test that both sides make
   built_by : (a : Bound) (c : List ℕ) (parts : Patterns Bound) (pats : FlatPatterns) (n declared place : ℕ) → a.bound ≡ Some (Constructs declared place) → (t : Thunk) (tag : ℕ) (fields : Vals) (ts : Thunks)
-      → Gives program (force t) (datum tag ts) → Whichever (parts_matched pats fields) (Passes (matching_parts parts ts)) (Takes n (matching_parts parts ts)) → (b : Bool) → nat_eq tag place ≡ b
-      → Whichever (if b then parts_matched pats fields else passed_over) (Passes (matching (constructor_pattern a c parts) t)) (Takes n (matching (constructor_pattern a c parts) t))
+      → Gives program (force t) (datum tag ts) → Whichever (counted_match pats fields) (Passes (matching_parts parts ts)) (Takes n (matching_parts parts ts)) → (b : Bool) → nat_eq tag place ≡ b
+      → Whichever (if b then counted_match pats fields else passed_over) (Passes (matching (constructor_pattern a c parts) t)) (Takes n (matching (constructor_pattern a c parts) t))
   built_by a c parts pats n declared place e t tag fields ts g h true k =
       whichever_map _ _ (Takes n (matching_parts parts ts)) (Takes n (matching (constructor_pattern a c parts) t)) _ (λ p. mapped_two (λ m x y. built_goes _ _ _ _ _ ts _ e k x ∙ y) g p)
       (λ ws w. record { them = w.them; had = mapped_two (λ m x y. built_goes _ _ _ _ _ ts _ e k x ∙ y) g w.had; stand = w.stand; many = w.many }) h
   built_by a c parts pats n declared place e t tag fields ts g h false k = mapped (λ m x. built_passes _ _ _ _ _ ts _ e k x) g
 
   tuple_by : (a : Bound) (parts : Patterns Bound) (pats : FlatPatterns) (n : ℕ) (t : Thunk) (tag : ℕ) (fields : Vals) (ts : Thunks)
-      → Gives program (force t) (datum tag ts) → Whichever (parts_matched pats fields) (Passes (matching_parts parts ts)) (Takes n (matching_parts parts ts))
+      → Gives program (force t) (datum tag ts) → Whichever (counted_match pats fields) (Passes (matching_parts parts ts)) (Takes n (matching_parts parts ts))
       → Whichever (matched (built_pattern 0 pats) (val tag fields)) (Passes (matching (tuple_pattern a parts) t)) (Takes n (matching (tuple_pattern a parts) t))
   tuple_by a parts pats n t zero fields ts g h =
       whichever_map _ _ (Takes n (matching_parts parts ts)) (Takes n (matching (tuple_pattern a parts) t)) _ (λ p. mapped_two (λ m x y. tuple_goes _ ts _ x ∙ y) g p)
@@ -105,8 +113,8 @@ module _ (program : List (Declaration Bound)) where
     pub pattern_is_matched : {p : Pattern Bound} {q : FlatPattern} {n : ℕ} → IsPattern binding_of p q n → (t : Thunk) (v : Val) → Stands program t v → Whichever (matched q v) (Passes (matching p t)) (Takes n (matching p t))
     pattern_is_matched is_any t v h = record { them = nothing; had = always (λ b. refl); stand = tt; many = refl }
     pattern_is_matched is_variable t v h = record { them = and_then t nothing; had = always (λ b. refl); stand = (h, tt); many = refl }
-    pattern_is_matched (is_built {a = a} {c = c} {parts = parts} {pats = pats} {n = n} {declared = declared} {place = place} e ps) t (val tag fields) h = built_by a c parts pats n declared place e t tag fields h.0 h.1 (parts_are_matched ps h.0 fields h.2) (nat_eq tag place) refl
-    pattern_is_matched (is_tuple {a = a} {parts = parts} {pats = pats} {n = n} ps) t (val tag fields) h = tuple_by a parts pats n t tag fields h.0 h.1 (parts_are_matched ps h.0 fields h.2)
+    pattern_is_matched (is_built {a = a} {c = c} {parts = parts} {pats = pats} {n = n} {declared = declared} {place = place} e ps) t (val tag fields) h = built_by a c parts pats n declared place e t tag fields h.0 h.1 (counted (are_as_many pats fields) _ (parts_are_matched ps h.0 fields h.2)) (nat_eq tag place) refl
+    pattern_is_matched (is_tuple {a = a} {parts = parts} {pats = pats} {n = n} ps) t (val tag fields) h = tuple_by a parts pats n t tag fields h.0 h.1 (counted (are_as_many pats fields) _ (parts_are_matched ps h.0 fields h.2))
 
     pub parts_are_matched : {ps : Patterns Bound} {qs : FlatPatterns} {n : ℕ} → ArePatterns binding_of ps qs n → (ts : Thunks) (fields : Vals) → FieldsStand program ts fields
         → Whichever (parts_matched qs fields) (Passes (matching_parts ps ts)) (Takes n (matching_parts ps ts))
@@ -176,25 +184,29 @@ module _ (program : List (Declaration Bound)) where
       → RowTakes env e ms (λ b. and_try (taken nothing) (λ xs. and_try (y b) (λ ys. taken (joined xs ys)))) us
   row_ignored env e ms y us u = record { them = u.them; had = mapped (λ b. two_taken _ _ nothing _ refl) u.had; stand = u.stand; many = u.many }
 
-  pub row_is_matched : {d e : ℕ} {cols : Columns Bound} {ps : List (Pattern Bound)} {qs : FlatPatterns} {ms : Meants Bound} → AreColumns binding_of d cols ps qs ms e → (env : List Val) (ts : Thunks) (vs : List Val) → length env ≡ d
-      → ColumnsMeant env cols ts vs → Whichever (row_matched qs vs) (Passes (matching_row ps ts)) (RowTakes env e ms (matching_row ps ts))
-  row_is_matched none_in env nothing [] l h = row_none env _ l
-  row_is_matched none_in env nothing (v ∷ vs) l h = absurd h
-  row_is_matched none_in env (and_then t ts) vs l h = absurd h
-  row_is_matched (matched_in p ps) env nothing vs l h = absurd h
-  row_is_matched (matched_in p ps) env (and_then t ts) [] l h = absurd h
-  row_is_matched (matched_in {d = d} {n = n} {e = e} {cols = cols} {p = sp} {ps = sps} {q = q} {qs = qs} {ms = ms} p ps) env (and_then t ts) (v ∷ vs) l h =
+  row_parts_matched : {d e : ℕ} {cols : Columns Bound} {ps : List (Pattern Bound)} {qs : FlatPatterns} {ms : Meants Bound} → AreColumns binding_of d cols ps qs ms e → (env : List Val) (ts : Thunks) (vs : List Val) → length env ≡ d
+      → ColumnsMeant env cols ts vs → Whichever (parts_matched qs (vals vs)) (Passes (matching_row ps ts)) (RowTakes env e ms (matching_row ps ts))
+  row_parts_matched none_in env nothing [] l h = row_none env _ l
+  row_parts_matched none_in env nothing (v ∷ vs) l h = absurd h
+  row_parts_matched none_in env (and_then t ts) vs l h = absurd h
+  row_parts_matched (matched_in p ps) env nothing vs l h = absurd h
+  row_parts_matched (matched_in p ps) env (and_then t ts) [] l h = absurd h
+  row_parts_matched (matched_in {d = d} {n = n} {e = e} {cols = cols} {p = sp} {ps = sps} {q = q} {qs = qs} {ms = ms} p ps) env (and_then t ts) (v ∷ vs) l h =
       whichever_on (Passes (matching sp t)) _ (Takes n (matching sp t)) (RowTakes env e (joined_meants (flats d n) ms) (matching_row (sp ∷ sps) (and_then t ts))) (matched q v) _ (pattern_is_matched p t v h.0)
       (λ k. mapped (λ b. first_passed _ _) k)
-      (λ ws w. whichever_on (Passes (matching_row sps ts)) _ (RowTakes (env ++ ws) e ms (matching_row sps ts)) (RowTakes env e (joined_meants (flats d n) ms) (matching_row (sp ∷ sps) (and_then t ts))) (row_matched qs vs) _
-      (row_is_matched ps (env ++ ws) ts vs (let k : length (env ++ ws) ≡ length env + length ws = length-append env ws in let m = w.many in omega arith) (columns_more env ws cols ts vs h.1))
+      (λ ws w. whichever_on (Passes (matching_row sps ts)) _ (RowTakes (env ++ ws) e ms (matching_row sps ts)) (RowTakes env e (joined_meants (flats d n) ms) (matching_row (sp ∷ sps) (and_then t ts))) (parts_matched qs (vals vs)) _
+      (row_parts_matched ps (env ++ ws) ts vs (let k : length (env ++ ws) ≡ length env + length ws = length-append env ws in let m = w.many in omega arith) (columns_more env ws cols ts vs h.1))
       (λ k. mapped_two (λ b. second_passed _ _ _) w.had k)
       (λ us u. row_more env d n e ms (matching sp t) (matching_row sps ts) ws us l w u))
-  row_is_matched (named_in ps) env nothing vs l h = absurd h
-  row_is_matched (named_in {e = e} {m = m} {ps = sps} {qs = qs} {ms = ms} ps) env (and_then t ts) vs l h =
-      whichever_map (Passes (matching_row sps ts)) _ (RowTakes env e ms (matching_row sps ts)) _ (row_matched qs vs)
-      (λ k. mapped (λ b. second_passed _ _ (and_then t nothing) refl) k) (λ us u. row_named env m t e ms (matching_row sps ts) us h.0 u) (row_is_matched ps env ts vs l h.1)
-  row_is_matched (ignored_in ps) env nothing vs l h = absurd h
-  row_is_matched (ignored_in {e = e} {m = m} {ps = sps} {qs = qs} {ms = ms} ps) env (and_then t ts) vs l h =
-      whichever_map (Passes (matching_row sps ts)) _ (RowTakes env e ms (matching_row sps ts)) _ (row_matched qs vs)
-      (λ k. mapped (λ b. second_passed _ _ nothing refl) k) (λ us u. row_ignored env e ms (matching_row sps ts) us u) (row_is_matched ps env ts vs l h.1)
+  row_parts_matched (named_in ps) env nothing vs l h = absurd h
+  row_parts_matched (named_in {e = e} {m = m} {ps = sps} {qs = qs} {ms = ms} ps) env (and_then t ts) vs l h =
+      whichever_map (Passes (matching_row sps ts)) _ (RowTakes env e ms (matching_row sps ts)) _ (parts_matched qs (vals vs))
+      (λ k. mapped (λ b. second_passed _ _ (and_then t nothing) refl) k) (λ us u. row_named env m t e ms (matching_row sps ts) us h.0 u) (row_parts_matched ps env ts vs l h.1)
+  row_parts_matched (ignored_in ps) env nothing vs l h = absurd h
+  row_parts_matched (ignored_in {e = e} {m = m} {ps = sps} {qs = qs} {ms = ms} ps) env (and_then t ts) vs l h =
+      whichever_map (Passes (matching_row sps ts)) _ (RowTakes env e ms (matching_row sps ts)) _ (parts_matched qs (vals vs))
+      (λ k. mapped (λ b. second_passed _ _ nothing refl) k) (λ us u. row_ignored env e ms (matching_row sps ts) us u) (row_parts_matched ps env ts vs l h.1)
+
+  pub row_is_matched : {d e : ℕ} {cols : Columns Bound} {ps : List (Pattern Bound)} {qs : FlatPatterns} {ms : Meants Bound} → AreColumns binding_of d cols ps qs ms e → (env : List Val) (ts : Thunks) (vs : List Val) → length env ≡ d
+      → ColumnsMeant env cols ts vs → Whichever (row_matched qs vs) (Passes (matching_row ps ts)) (RowTakes env e ms (matching_row ps ts))
+  row_is_matched {qs = qs} p env ts vs l h = counted (are_as_many qs (vals vs)) _ (row_parts_matched p env ts vs l h)

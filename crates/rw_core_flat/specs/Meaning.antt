@@ -1,5 +1,5 @@
 -- What a flat term gives: a value, what a state action does, or the trace of a device. By recursion on the term, over what calls give.
-use Rattle.std.specs.Prelude.{ℕ, zero, suc, nat_eq, List, [], ◌∷◌, ◌++◌, Option, Some, None, if◌then◌else◌}
+use Rattle.std.specs.Prelude.{ℕ, zero, suc, nat_eq, Bool, true, false, List, [], ◌∷◌, ◌++◌, Option, Some, None, if◌then◌else◌}
 use Rattle.rw_core.specs.Values.{Val, Vals, val, none, more, vals}
 use Rattle.rw_core.specs.Options.{◌>>=◌}
 use Rattle.rw_core.specs.Traces.{End, Trace, silent, signalled, and_on, without_state}
@@ -98,22 +98,27 @@ if_holds (val zero fields) first second wrong = second
 if_holds (val (suc zero) fields) first second wrong = first
 if_holds (val (suc (suc n)) fields) first second wrong = wrong
 
--- what the pattern's variables stand for, from left to right
+-- as many patterns as values
+abbrev pub are_as_many : FlatPatterns → Vals → Bool
+are_as_many no_patterns none = true
+are_as_many (more_patterns p ps) (more v vs) = are_as_many ps vs
+are_as_many _ _ = false
+
+-- what the pattern's variables stand for, from left to right. How many fields there are is asked before the first is looked at
 abbrev mutual
   pub matched : FlatPattern → Val → Tried (List Val)
   matched any_pattern v = taken []
   matched bound_pattern v = taken (v ∷ [])
-  matched (built_pattern place pats) (val tag fields) = if nat_eq tag place then parts_matched pats fields else passed_over
+  matched (built_pattern place pats) (val tag fields) = if nat_eq tag place then (if are_as_many pats fields then parts_matched pats fields else stuck) else passed_over
 
   pub parts_matched : FlatPatterns → Vals → Tried (List Val)
   parts_matched no_patterns none = taken []
   parts_matched (more_patterns p ps) (more v vs) = and_try (matched p v) (λ xs. and_try (parts_matched ps vs) (λ ys. taken (xs ++ ys)))
   parts_matched _ _ = stuck
 
+-- a row matches as the fields of a constructor do
 abbrev pub row_matched : FlatPatterns → List Val → Tried (List Val)
-row_matched no_patterns [] = taken []
-row_matched (more_patterns p ps) (v ∷ vs) = and_try (matched p v) (λ xs. and_try (row_matched ps vs) (λ ys. taken (xs ++ ys)))
-row_matched _ _ = stuck
+row_matched ps vs = if are_as_many ps (vals vs) then parts_matched ps (vals vs) else stuck
 
 -- == Terms ==
 

@@ -1,6 +1,7 @@
 -- Flat programs: functions and a system of functions; and which outputs they show.
 use Rattle.std.specs.Prelude.{ℕ, zero, suc, nat_eq, List, [], ◌∷◌, length, Option, Some, None, if◌then◌else◌}
 use Rattle.rw_base.specs.declared.place.Place.{Place}
+use Rattle.rw_core.specs.declared.types.DataTy.{DataTy}
 use Rattle.rw_core.specs.Values.{Val}
 use Rattle.rw_core.specs.Options.{◌>>=◌}
 use Rattle.rw_core.specs.Eventually.{Reaches}
@@ -24,6 +25,14 @@ pub record FlatFunction : Type 0 where
   pub params : List ℕ
   pub result : ℕ
   pub body : FlatTerm
+
+-- a flat program: its closed data types, its functions in order, its system over their numbers, and the types of the system's inputs and outputs
+pub record FlatProgram : Type 0 where
+  pub types : List DataTy
+  pub functions : List FlatFunction
+  pub system : System ℕ ℕ
+  pub input : ℕ
+  pub output : ℕ
 
 abbrev pub function_at : ℕ → List FlatFunction → Option FlatFunction
 function_at k [] = None

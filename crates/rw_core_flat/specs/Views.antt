@@ -12,12 +12,13 @@ use Rattle.rw_core_flat.specs.declared.term.FArm.{FArm, fold-FArm}
 use Rattle.rw_core_flat.specs.declared.function.FlatFun.{FlatFun}
 use Rattle.rw_core_flat.specs.declared.function.FunKind.{FunKind}
 use Rattle.rw_core_flat.specs.declared.function.FunKind.TheVariants as k
+use Rattle.rw_core_flat.specs.declared.program.Flat.{Flat}
 use Rattle.rw_core_flat.specs.declared.program.System.{System, fold-System}
 use Rattle.rw_core_flat.specs.declared.program.System.TheOpen.{System-F}
 use Rattle.rw_core_flat.specs.Terms.{FlatPattern, any_pattern, bound_pattern, built_pattern, FlatPatterns, no_patterns, more_patterns}
 use Rattle.rw_core_flat.specs.Terms.{FlatTerm, local_term, built_term, case_term, let_term, call_term, mark_term, return_term, get_term, put_term, lift_term, bind_term, signal_term, extrude_term, FlatTerms, no_terms, more_terms}
 use Rattle.rw_core_flat.specs.Terms.{FlatLets, no_lets, more_lets, FlatRows, no_rows, more_rows, FlatArms, body_arm, no_arms, more_arms}
-use Rattle.rw_core_flat.specs.Programs.{FunctionKind, pure, state, device, FlatFunction}
+use Rattle.rw_core_flat.specs.Programs.{FunctionKind, pure, state, device, FlatFunction, FlatProgram}
 
 -- == Patterns ==
 
@@ -130,3 +131,6 @@ system_step (System-F.Refold f g d) = fed_back f g d
 
 abbrev pub system_of : System → PlainSystem ℕ ℕ
 system_of = fold-System (PlainSystem ℕ ℕ) system_step
+
+abbrev pub flat_program : Flat → FlatProgram
+flat_program p = record { types = p.table.types; functions = functions_of p.funs; system = system_of p.system; input = p.input; output = p.output }

@@ -5,7 +5,7 @@ use Rattle.rw_core.specs.Values.{Val, Vals, val, none, more, vals}
 use Rattle.rw_core.specs.Options.{◌>>=◌}
 use Rattle.rw_meaning.specs.Options.{Tried, stuck, passed_over, taken, and_try}
 use Rattle.rw_core_flat.specs.Terms.{FlatPattern, any_pattern, bound_pattern, built_pattern, FlatPatterns, no_patterns, more_patterns}
-use Rattle.rw_core_flat.specs.Meaning.{matched, parts_matched, row_matched, value_at}
+use Rattle.rw_core_flat.specs.Meaning.{are_as_many, matched, parts_matched, row_matched, value_at}
 use Rattle.std.specs.List.{AllByRecursion}
 use Rattle.rw_core_flat.specs.WellTyped.{DataTypes, Fits, FieldsFit, AllFit, type_at, pattern_types, patterns_types}
 
@@ -83,15 +83,33 @@ module _ (types : DataTypes) where
   matches_both : (ds es fs : List ℕ) (x y : Tried (List Val)) → ds ++ es ≡ fs → Matches ds x → Matches es y → Matches fs (and_try x (λ xs. and_try y (λ ys. taken (xs ++ ys))))
   matches_both ds es fs x y e h k = matches_on ds fs x _ h (λ xs a. matches_on es fs y _ k (λ ys b. subst (λ z. AllFit types z (xs ++ ys)) e (all_joined ds xs es ys a b)))
 
+  -- patterns that have types are as many as the values that fit
+  as_many : (ps : FlatPatterns) (ds es : List ℕ) → patterns_types types ps ds ≡ Some es → (vs : Vals) → FieldsFit types ds vs → are_as_many ps vs ≡ true
+  as_many no_patterns [] es e none h = refl
+  as_many no_patterns [] es e (more v vs) h = absurd h
+  as_many no_patterns (d ∷ ds) es e vs h = absurd (cc)
+  as_many (more_patterns p ps) [] es e vs h = absurd (cc)
+  as_many (more_patterns p ps) (d ∷ ds) es e none h = absurd h
+  as_many (more_patterns p ps) (d ∷ ds) es e (more v vs) h =
+      let f = held_first (pattern_types types p d) _ es e in
+      let g = held_first (patterns_types types ps ds) _ es f.2 in
+      as_many ps ds g.0 g.1 vs h.1
+
+  -- they match where their number is asked first, too
+  counted : (es : List ℕ) (b : Bool) (x : Tried (List Val)) → b ≡ true → Matches es x → Matches es (if b then x else stuck)
+  counted es true x e h = h
+  counted es false x e h = absurd (cc)
+
   mutual
     pub pattern_matches : (p : FlatPattern) (d : ℕ) (es : List ℕ) → pattern_types types p d ≡ Some es → (v : Val) → Fits types d v → Matches es (matched p v)
     pattern_matches any_pattern d es e v h = let k : [] ≡ es = cc in subst (λ z. AllFit types z []) k tt
     pattern_matches bound_pattern d es e v h = let k : d ∷ [] ≡ es = cc in subst (λ z. AllFit types z (v ∷ [])) k (h, tt)
     pattern_matches (built_pattern place ps) d es e (val tag vs) h =
         let f = held_first (types.fields d place) (patterns_types types ps) es e in
-        by_place (nat_eq tag place) refl (λ same. parts_match ps f.0 es f.2 vs (subst (λ z. FieldsFit types z vs) (same_held (types.fields d place) h.0 f.0 (subst (λ z. types.fields d z ≡ Some h.0) same h.1) f.1) h.2))
+        by_place (nat_eq tag place) refl (λ same. let k = subst (λ z. FieldsFit types z vs) (same_held (types.fields d place) h.0 f.0 (subst (λ z. types.fields d z ≡ Some h.0) same h.1) f.1) h.2 in
+        counted es (are_as_many ps vs) (parts_matched ps vs) (as_many ps f.0 es f.2 vs k) (parts_match ps f.0 es f.2 vs k))
       where
-        by_place : (b : Bool) → nat_eq tag place ≡ b → (tag ≡ place → Matches es (parts_matched ps vs)) → Matches es (if b then parts_matched ps vs else passed_over)
+        by_place : (b : Bool) → nat_eq tag place ≡ b → (tag ≡ place → Matches es (if are_as_many ps vs then parts_matched ps vs else stuck)) → Matches es (if b then (if are_as_many ps vs then parts_matched ps vs else stuck) else passed_over)
         by_place true e k = k (equal_numbers tag place e)
         by_place false e k = tt
 
@@ -108,13 +126,6 @@ module _ (types : DataTypes) where
         matches_both f.0 g.0 es (matched p v) (parts_matched ps vs) k (pattern_matches p d f.0 f.1 v h.0) (parts_match ps ds g.0 g.1 vs h.1)
 
   pub row_matches : (ps : FlatPatterns) (ds es : List ℕ) → patterns_types types ps ds ≡ Some es → (vs : List Val) → AllFit types ds vs → Matches es (row_matched ps vs)
-  row_matches no_patterns [] es e [] h = let k : [] ≡ es = cc in subst (λ z. AllFit types z []) k tt
-  row_matches no_patterns [] es e (v ∷ vs) h = absurd h
-  row_matches no_patterns (d ∷ ds) es e vs h = absurd (cc)
-  row_matches (more_patterns p ps) [] es e vs h = absurd (cc)
-  row_matches (more_patterns p ps) (d ∷ ds) es e [] h = absurd h
-  row_matches (more_patterns p ps) (d ∷ ds) es e (v ∷ vs) h =
-      let f = held_first (pattern_types types p d) _ es e in
-      let g = held_first (patterns_types types ps ds) _ es f.2 in
-      let k : f.0 ++ g.0 ≡ es = cc in
-      matches_both f.0 g.0 es (matched p v) (row_matched ps vs) k (pattern_matches p d f.0 f.1 v h.0) (row_matches ps ds g.0 g.1 vs h.1)
+  row_matches ps ds es e vs h =
+      let k = as_fields ds vs h in
+      counted es (are_as_many ps (vals vs)) (parts_matched ps (vals vs)) (as_many ps ds es e (vals vs) k) (parts_match ps ds es e (vals vs) k)

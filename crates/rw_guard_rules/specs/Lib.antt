@@ -1,3 +1,4 @@
 -- The words that public contracts rest on.
 pub mod Signals
 pub mod Rules
+pub mod Verdict
