@@ -15,14 +15,14 @@ use Rattle.rw_core_flat.specs.Meaning.{matched, row_matched, value_at, meaning, 
 use Rattle.rw_core_flat.specs.Programs.{FlatFunction, function_at, call_within, read_by, outputs_within}
 
 -- what comes after the same grows where it grows after each result
-unchanged : {A B : Type 0} (x : Option A) (f g : A → Option B) → ((a : A) → Grows (f a) (g a)) → Grows (x >>= f) (x >>= g)
+pub unchanged : {A B : Type 0} (x : Option A) (f g : A → Option B) → ((a : A) → Grows (f a) (g a)) → Grows (x >>= f) (x >>= g)
 unchanged x f g h = grows_on x x f g (grows_same x) h
 
 -- and the same comes after what grows
-followed : {A B : Type 0} (x later : Option A) (f : A → Option B) → Grows x later → Grows (x >>= f) (later >>= f)
+pub followed : {A B : Type 0} (x later : Option A) (f : A → Option B) → Grows x later → Grows (x >>= f) (later >>= f)
 followed x later f h = grows_on x later f f h (λ a. grows_same (f a))
 
-and_on_grows : {V S : Type 0} (outputs : List V) (end : End V S) (f g : V → S → List Val → Option (Trace V S)) → ((v : V) (s : S) (inputs : List Val) → Grows (f v s inputs) (g v s inputs)) → Grows (and_on outputs end f) (and_on outputs end g)
+pub and_on_grows : {V S : Type 0} (outputs : List V) (end : End V S) (f g : V → S → List Val → Option (Trace V S)) → ((v : V) (s : S) (inputs : List Val) → Grows (f v s inputs) (g v s inputs)) → Grows (and_on outputs end f) (and_on outputs end g)
 and_on_grows outputs waits f g h = refl
 and_on_grows outputs (finished v s inputs) f g h = followed (f v s inputs) (g v s inputs) _ (h v s inputs)
 
@@ -44,7 +44,7 @@ extruded_grows (acting states) v f g h = tt
 extruded_grows (tracing states inputs) v f g h =
     followed (f (tracing (v ∷ states) inputs) >>= as_trace) (g (tracing (v ∷ states) inputs) >>= as_trace) _ (followed (f (tracing (v ∷ states) inputs)) (g (tracing (v ∷ states) inputs)) as_trace (h (tracing (v ∷ states) inputs)))
 
-holds_grows : (v : Val) (x later y other : Tried Answer) → Keeps x later → Keeps y other → Keeps (if_holds v x y stuck) (if_holds v later other stuck)
+pub holds_grows : {A : Type 0} (v : Val) (x later y other : Tried A) → Keeps x later → Keeps y other → Keeps (if_holds v x y stuck) (if_holds v later other stuck)
 holds_grows (val zero vs) x later y other h k = k
 holds_grows (val (suc zero) vs) x later y other h k = h
 holds_grows (val (suc (suc tag)) vs) x later y other h k = tt
@@ -104,11 +104,11 @@ module _ (calls later : Mode → ℕ → List Val → Option Answer) (h : (mode 
       (λ i v. followed _ _ as_value (h valued i (v ∷ []))) (λ i v w. followed _ _ as_value (h valued i (v ∷ w ∷ []))) s)
       inputs
 
-module _ (functions : List FlatFunction) where
-  if_grows : (c : Bool) (x y : Option Answer) → Grows x y → Grows (if c then x else None) (if c then y else None)
-  if_grows true x y h = h
-  if_grows false x y h = tt
+pub if_grows : {A : Type 0} (c : Bool) (x y : Option A) → Grows x y → Grows (if c then x else None) (if c then y else None)
+if_grows true x y h = h
+if_grows false x y h = tt
 
+module _ (functions : List FlatFunction) where
   pub call_grows : (further b : ℕ) (mode : Mode) (i : ℕ) (vs : List Val) → Grows (call_within functions b mode i vs) (call_within functions (further + b) mode i vs)
   unfolding call_within
   call_grows further zero mode i vs = tt

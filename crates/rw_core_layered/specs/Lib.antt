@@ -1,0 +1,8 @@
+-- The words that public contracts rest on.
+pub mod Pures
+pub mod Calls
+pub mod Devices
+pub mod Layered
+pub mod Machines
+pub mod Embedding
+pub mod Views
