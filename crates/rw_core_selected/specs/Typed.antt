@@ -2,9 +2,11 @@
 -- one that stands there, so types alone don't say that a tree has one.
 use Rattle.std.specs.Prelude.{◌≡◌, ℕ, zero, suc, ◌<◌, List, [], ◌∷◌, ◌++◌, map, length, Option, Some, None}
 use Rattle.rw_core.specs.declared.types.DataTy.{DataTy}
-use Rattle.rw_core.specs.Bits.{IsTable, constructors_of}
+use Rattle.rw_core.specs.Bits.{IsTable, constructors_of, IsValue, AreValues}
+use Rattle.rw_core.specs.Values.{Val, vals}
 use Rattle.rw_core.specs.Systems.{System, leaf, side_by_side, fed_back}
 use Rattle.rw_core_flat.specs.WellTyped.{fields_in, type_at}
+use Rattle.rw_core_layered.specs.Pures.{Calling}
 use Rattle.rw_core_layered.specs.Calls.{Function}
 use Rattle.rw_core_layered.specs.Machines.{MachineLeaf, leaf_at}
 use Rattle.rw_core_selected.specs.Trees.{SelectTerm, select_local, select_con, select_field, select_call, SelectTerms, no_selects, more_selects, Tree, tree_switch, tree_let, tree_result, Branches, no_branches, other_branch, more_branches, TreeMachine}
@@ -52,6 +54,11 @@ module _ (types : List DataTy) where
   abbrev pub AreTypedBehind : List Signature → List (Function Tree) → Type 0
   AreTypedBehind earlier [] = Unit {0}
   AreTypedBehind earlier (f ∷ fs) = TreeTyped types earlier f.params f.body f.result × AreTypedBehind (earlier ++ signature_of f ∷ []) fs
+
+-- what calls give of values of the types of a function's parameters is of the type of its value
+abbrev pub KeepsTypes : List DataTy → List Signature → Calling → Type 0
+KeepsTypes types signatures calls =
+    (i : ℕ) (s : Signature) → signature_at i signatures ≡ Some s → (arguments : List Val) → AreValues types s.params (vals arguments) → (v : Val) → calls i arguments ≡ Some v → IsValue types s.result v
 
 -- the types of a leaf's functions
 pub record LeafTyped (signatures : List Signature) (l : MachineLeaf) : Type 0 where

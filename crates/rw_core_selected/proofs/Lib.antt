@@ -1,0 +1,2 @@
+-- Lemmas about the definitions, which proofs above cite.
+pub mod Values
