@@ -5,4 +5,6 @@ pub mod Devices
 pub mod Layered
 pub mod Machines
 pub mod Embedding
+pub mod Wired
+pub mod WellFormed
 pub mod Views

@@ -14,8 +14,9 @@ use Rattle.rw_core_layered.specs.Pures.{Calling}
 use Rattle.rw_core_layered.specs.Calls.{Function, no_calls, and_function, calls_from, calls_of}
 use Rattle.rw_core_selected.specs.Trees.{SelectTerm, select_local, select_con, select_field, select_call, SelectTerms, no_selects, more_selects, Tree, tree_switch, tree_let, tree_result, Branches, no_branches, other_branch, more_branches}
 use Rattle.rw_core_selected.specs.Trees.{field_at, field_in, tag_of, select_value, select_values, tree_value, branch_value}
-use Rattle.rw_core_selected.specs.Typed.{Signature, signature_of, signature_at, SelectTyped, local_typed, con_typed, field_typed, call_typed, SelectsTyped, no_selects_typed, more_selects_typed, TreeTyped, switch_typed, let_typed, result_typed}
-use Rattle.rw_core_selected.specs.Typed.{BranchesTyped, no_branches_typed, other_branch_typed, more_branches_typed, AreTypedBehind, KeepsTypes}
+use Rattle.rw_core_layered.specs.Wired.{Signature, signature_of, signature_at, KeepsTypes}
+use Rattle.rw_core_selected.specs.Typed.{SelectTyped, local_typed, con_typed, field_typed, call_typed, SelectsTyped, no_selects_typed, more_selects_typed, TreeTyped, switch_typed, let_typed, result_typed}
+use Rattle.rw_core_selected.specs.Typed.{BranchesTyped, no_branches_typed, other_branch_typed, more_branches_typed, AreTypedBehind}
 
 same_held : {A : Type 0} (x : Option A) (a b : A) → x ≡ Some a → x ≡ Some b → a ≡ b
 same_held x a b e h = cc

@@ -6,7 +6,8 @@ ghost use Rattle.rw_core.specs.Bits.{IsValue, AreValues};
 ghost use Rattle.rw_core_layered.specs.Pures.{Calling};
 ghost use Rattle.rw_core_layered.specs.Calls.{Function, calls_of};
 ghost use Rattle.rw_core_selected.specs.Trees.{Tree, tree_value};
-ghost use Rattle.rw_core_selected.specs.Typed.{Signature, signature_of, TreeTyped, AreTypedBehind, KeepsTypes};
+ghost use Rattle.rw_core_layered.specs.Wired.{Signature, signature_of, KeepsTypes};
+ghost use Rattle.rw_core_selected.specs.Typed.{TreeTyped, AreTypedBehind};
 
 /// What a well-typed tree gives of values of its variables' types is of its type, where calls keep types; and those of well-typed
 /// functions do.

@@ -1,2 +1,4 @@
 -- The words that public contracts rest on.
 pub mod Passes
+pub mod Denoting
+pub mod Designs

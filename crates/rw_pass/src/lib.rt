@@ -5,6 +5,7 @@
 //! Begin with `specs/Passes.antt`, then `pass.rt`.
 #![tactic(auto)]
 
+mod design;
 mod pass;
 
 pub use pass::{Denotes, Pass, Then};
