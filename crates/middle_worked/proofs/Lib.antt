@@ -1,0 +1,2 @@
+-- Facts that are built by hand.
+mod Typing

@@ -1,0 +1,2 @@
+-- The programs that are worked.
+pub mod Toggle
