@@ -1,0 +1,6 @@
+-- Lemmas about the definitions.
+mod Lists
+mod Cycles
+mod Signalling
+mod Weighing
+mod Typings
