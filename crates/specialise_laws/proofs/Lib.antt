@@ -1,0 +1,4 @@
+pub mod Same
+pub mod Listing
+pub mod Seeing
+pub mod Limiting
