@@ -1,0 +1,2 @@
+-- The words that public contracts rest on.
+pub mod Closed
