@@ -5,7 +5,7 @@ use Rattle.rw_cover_matrix.specs.Matching.{PlainPattern, anything, constructed, 
 use Rattle.rw_cover_matrix.specs.Coverage.{some_row_matches, Covers, Decides}
 use Rattle.rw_cover_matrix.specs.Columns.{group, shorter_rows, AreWithin, IsReached, IsOpen, HasOpen}
 use Rattle.rw_cover_matrix.proofs.Rows.{some_value, some_value-is, some_values, some_values-are, some_choice, joined_shapes, joined_values, joined-are, shapes_count, same_count, split, IsCut, cut}
-use Rattle.rw_cover_matrix.proofs.Taken.{HasNone, rows_split, rows_none, rows_before, shorter_rows_within, group_of, shorter_of, rows_of_append, rows_of_more}
+use Rattle.rw_cover_matrix.proofs.Taken.{HasNone, any_append, rows_split, rows_none, rows_before, shorter_rows_within, group_of, shorter_of, rows_of_append, rows_of_more}
 
 abbrev Rows : Type 0
 Rows = List (List PlainPattern)
@@ -102,10 +102,6 @@ at_cut n rows answer reached all columns r =
 abbrev pub IsCounted : ℕ → Rows → ℕ → Type 0
 IsCounted n rows count = (front : Shapes) (last : Shape) (behind : Shapes) → shapes_count front ≡ n → AreRowsOf rows (joined_shapes front (more_shapes last behind)) → (HasNone n rows × (count ≡ 0)) ⊎ ((choices : Choices) × (last ≡ data_of choices) × (count ≡ choices_count choices))
 
--- what is known of a constructor that was looked at: its group has no rows, or covers with the shorter rows
-abbrev pub IsDone : ℕ → Rows → Bool → ℕ → Type 0
-IsDone n rows missing tag = ((group n tag rows ≡ []) × IsTrue missing) ⊎ Decides true (group n tag rows ++ shorter_rows n rows)
-
 -- a constructor that stands in no row, or no constructor at all
 abbrev pub IsMissing : ℕ → Rows → ℕ → Type 0
 IsMissing n rows count = (count ≡ 0) ⊎ ((tag : ℕ) × (tag < count) × (group n tag rows ≡ []))
@@ -134,15 +130,12 @@ module _ (n count : ℕ) (rows : Rows) (within : AreWithin (suc n) rows) (reache
   decides_uncovered tag lt d = at_cut n rows false reached (λ front last behind e r. ((λ t. cc), uncovered_at tag lt d front last behind e r))
 
   -- each constructor stands in some row, and its rows cover
-  all_data : ((tag : ℕ) → tag < count → IsDone n rows false tag) → (front : Shapes) (choices : Choices) (behind : Shapes) → count ≡ choices_count choices → shapes_count front ≡ n → AreRowsOf rows (joined_shapes front (more_shapes (data_of choices) behind)) → Covers (joined_shapes front (more_shapes (data_of choices) behind)) rows
+  all_data : ((tag : ℕ) → tag < count → Decides true (group n tag rows ++ shorter_rows n rows)) → (front : Shapes) (choices : Choices) (behind : Shapes) → count ≡ choices_count choices → shapes_count front ≡ n → AreRowsOf rows (joined_shapes front (more_shapes (data_of choices) behind)) → Covers (joined_shapes front (more_shapes (data_of choices) behind)) rows
   all_data done front choices behind k e r =
       covers_joined n rows within front behind e choices
-      (λ tag lt. elim (done tag (omega arith)) [
-        | inl a ↦ absurd (let f : false ≡ true = a.1 in cc)
-        | inr d ↦ (d (joined_shapes front (fields_of tag choices)) (group_rows_of front choices behind tag e r)).0 refl
-      ])
+      (λ tag lt. (done tag (omega arith) (joined_shapes front (fields_of tag choices)) (group_rows_of front choices behind tag e r)).0 refl)
 
-  all_at : 0 < count → ((tag : ℕ) → tag < count → IsDone n rows false tag) → (front : Shapes) (last : Shape) (behind : Shapes) → shapes_count front ≡ n → AreRowsOf rows (joined_shapes front (more_shapes last behind)) → Covers (joined_shapes front (more_shapes last behind)) rows
+  all_at : 0 < count → ((tag : ℕ) → tag < count → Decides true (group n tag rows ++ shorter_rows n rows)) → (front : Shapes) (last : Shape) (behind : Shapes) → shapes_count front ≡ n → AreRowsOf rows (joined_shapes front (more_shapes last behind)) → Covers (joined_shapes front (more_shapes last behind)) rows
   all_at some done front last behind e r =
       elim (counted front last behind e r) [
         | inl a ↦ absurd (omega (arith, a.1))
@@ -151,23 +144,21 @@ module _ (n count : ℕ) (rows : Rows) (within : AreWithin (suc n) rows) (reache
             subst P (sym a.1) (all_data done front a.0 behind a.2 e) r
       ]
 
-  pub decides_all : 0 < count → ((tag : ℕ) → tag < count → IsDone n rows false tag) → Decides true rows
+  pub decides_all : 0 < count → ((tag : ℕ) → tag < count → Decides true (group n tag rows ++ shorter_rows n rows)) → Decides true rows
   decides_all some done = at_cut n rows true reached (λ front last behind e r. ((λ t. all_at some done front last behind e r), λ covers. refl))
 
-  -- a constructor stands in no row: the shorter rows have to cover
-  missing_group : (front : Shapes) (choices : Choices) (tag : ℕ) → shapes_count front ≡ n → group n tag rows ≡ [] → Covers front (shorter_rows n rows) → Covers (joined_shapes front (fields_of tag choices)) (group n tag rows ++ shorter_rows n rows)
-  missing_group front choices tag e none covers =
-      subst (λ g. Covers (joined_shapes front (fields_of tag choices)) (g ++ shorter_rows n rows)) (sym none)
-      (covers_behind (shorter_rows n rows) front (fields_of tag choices) (subst (λ k. AreWithin k (shorter_rows n rows)) (sym e) (shorter_rows_within n rows)) covers)
+  -- a constructor stands in no row: the shorter rows have to cover, and then they cover the values of the others too
+  shorter_covers : (front : Shapes) (choices : Choices) (tag : ℕ) → shapes_count front ≡ n → Covers front (shorter_rows n rows) → Covers (joined_shapes front (fields_of tag choices)) (group n tag rows ++ shorter_rows n rows)
+  shorter_covers front choices tag e covers given is =
+      any_append (group n tag rows) (shorter_rows n rows) given
+      ∙ ap (λ b. some_row_matches (group n tag rows) given || b)
+      (covers_behind (shorter_rows n rows) front (fields_of tag choices) (subst (λ k. AreWithin k (shorter_rows n rows)) (sym e) (shorter_rows_within n rows)) covers given is)
+      ∙ or_true (some_row_matches (group n tag rows) given)
 
-  missing_data : (answer missing : Bool) → Decides answer (shorter_rows n rows) → ((tag : ℕ) → tag < count → IsDone n rows missing tag) → IsMissing n rows count → (front : Shapes) (choices : Choices) (behind : Shapes) → count ≡ choices_count choices → shapes_count front ≡ n → AreRowsOf rows (joined_shapes front (more_shapes (data_of choices) behind)) → IsTrue answer ↔ Covers (joined_shapes front (more_shapes (data_of choices) behind)) rows
-  missing_data answer missing d done m front choices behind k e r =
+  missing_data : (answer : Bool) → Decides answer (shorter_rows n rows) → IsMissing n rows count → (front : Shapes) (choices : Choices) (behind : Shapes) → count ≡ choices_count choices → shapes_count front ≡ n → AreRowsOf rows (joined_shapes front (more_shapes (data_of choices) behind)) → IsTrue answer ↔ Covers (joined_shapes front (more_shapes (data_of choices) behind)) rows
+  missing_data answer d m front choices behind k e r =
       let short = d front (shorter_of n rows front (more_shapes (data_of choices) behind) e r) in (
-        (λ t. covers_joined n rows within front behind e choices
-            (λ tag lt. elim (done tag (omega arith)) [
-              | inl a ↦ missing_group front choices tag e a.0 (short.0 t)
-              | inr g ↦ (g (joined_shapes front (fields_of tag choices)) (group_rows_of front choices behind tag e r)).0 refl
-            ])),
+        (λ t. covers_joined n rows within front behind e choices (λ tag lt. shorter_covers front choices tag e (short.0 t))),
         λ covers. elim m [
           | inl z ↦ absurd (omega (arith, some_choice choices))
           | inr w ↦
@@ -176,16 +167,16 @@ module _ (n count : ℕ) (rows : Rows) (within : AreWithin (suc n) rows) (reache
         ],
       )
 
-  missing_at : (answer missing : Bool) → Decides answer (shorter_rows n rows) → ((tag : ℕ) → tag < count → IsDone n rows missing tag) → IsMissing n rows count → (front : Shapes) (last : Shape) (behind : Shapes) → shapes_count front ≡ n → AreRowsOf rows (joined_shapes front (more_shapes last behind)) → IsTrue answer ↔ Covers (joined_shapes front (more_shapes last behind)) rows
-  missing_at answer missing d done m front last behind e r =
+  missing_at : (answer : Bool) → Decides answer (shorter_rows n rows) → IsMissing n rows count → (front : Shapes) (last : Shape) (behind : Shapes) → shapes_count front ≡ n → AreRowsOf rows (joined_shapes front (more_shapes last behind)) → IsTrue answer ↔ Covers (joined_shapes front (more_shapes last behind)) rows
+  missing_at answer d m front last behind e r =
       elim (counted front last behind e r) [
         | inl a ↦
             let short = d front (shorter_of n rows front (more_shapes last behind) e r) in
             ((λ t. covers_none n rows within front behind e last a.0 (short.0 t)), λ covers. short.1 (covers_shorter n rows within front behind e last a.0 covers))
         | inr a ↦
             let P : Shape → Type 0 = λ s. AreRowsOf rows (joined_shapes front (more_shapes s behind)) → IsTrue answer ↔ Covers (joined_shapes front (more_shapes s behind)) rows in
-            subst P (sym a.1) (missing_data answer missing d done m front a.0 behind a.2 e) r
+            subst P (sym a.1) (missing_data answer d m front a.0 behind a.2 e) r
       ]
 
-  pub decides_missing : (answer missing : Bool) → Decides answer (shorter_rows n rows) → ((tag : ℕ) → tag < count → IsDone n rows missing tag) → IsMissing n rows count → Decides answer rows
-  decides_missing answer missing d done m = at_cut n rows answer reached (missing_at answer missing d done m)
+  pub decides_missing : (answer : Bool) → Decides answer (shorter_rows n rows) → IsMissing n rows count → Decides answer rows
+  decides_missing answer d m = at_cut n rows answer reached (missing_at answer d m)

@@ -6,3 +6,4 @@ pub mod Smaller
 pub mod Plains
 pub mod Turned
 pub mod Popped
+pub mod Owed

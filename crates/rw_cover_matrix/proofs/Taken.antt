@@ -48,7 +48,7 @@ row_split : (n tag : ℕ) (row : List PlainPattern) (before fields behind : Valu
 row_split n tag row before fields behind h e =
     row_at n row before (built tag fields) behind e h ∙ cell_split n tag (take n row) (cell_at n row) before fields (front_is n row) e
 
-any_append : (a b : List (List PlainPattern)) (given : Values) → some_row_matches (a ++ b) given ≡ (some_row_matches a given || some_row_matches b given)
+pub any_append : (a b : List (List PlainPattern)) (given : Values) → some_row_matches (a ++ b) given ≡ (some_row_matches a given || some_row_matches b given)
 any_append a b given = list_any-append (λ row. row_matches row given) a b
 
 any_swap : (a b c d : List (List PlainPattern)) (given : Values) → (some_row_matches (a ++ b) given || some_row_matches (c ++ d) given) ≡ some_row_matches ((a ++ c) ++ (b ++ d)) given

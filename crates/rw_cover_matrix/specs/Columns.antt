@@ -69,6 +69,10 @@ HasOpen (row ∷ rows) = IsOpen row ⊎ HasOpen rows
 abbrev pub AreGroups : ℕ → List (List PlainPattern) → List (List (List PlainPattern)) → Type 0
 AreGroups n rows groups = (tag : ℕ) → tag < length groups → get_or groups tag [] ≡ group n tag rows
 
+-- a constructor that stands in no row, or no constructor at all
+abbrev pub HasMissing : List (List (List PlainPattern)) → Type 0
+HasMissing groups = (length groups ≡ 0) ⊎ ((tag : ℕ) × (tag < length groups) × (get_or groups tag [] ≡ []))
+
 -- how many patterns stand in rows, parts of patterns among them
 abbrev mutual
   pub pattern_nodes : PlainPattern → ℕ

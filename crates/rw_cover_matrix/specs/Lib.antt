@@ -4,3 +4,4 @@ pub mod Matching
 pub mod Coverage
 -- What functions inside promise each other.
 pub mod Columns
+pub mod Owing

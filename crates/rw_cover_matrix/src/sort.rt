@@ -1,7 +1,8 @@
 // Rows sorted by what stands in their last column, which is taken away.
-ghost use Rattle.std.specs.Prelude.{◌≡◌, ◌+◌, ◌<◌, ◌≤◌, ◌++◌, ◌∷◌, [], ℕ, suc, length, map, reverse, replicate, get_or, nat_eq, if◌then◌else◌, IfOk, OnOk};
+ghost use Rattle.std.specs.Prelude.{◌≡◌, ◌+◌, ◌<◌, ◌≤◌, ◌++◌, ◌∷◌, [], ℕ, suc, false, length, map, reverse, replicate, get_or, nat_eq, if◌then◌else◌, IfOk, OnOk, IsTrue};
 ghost use Rattle.rw_cover_matrix.specs.Matching.{plain, plain_row, plain_rows};
-ghost use Rattle.rw_cover_matrix.specs.Columns.{AreWithin, AreGroups, grown_cell, grown, shorter_cell, shorter, shorter_rows, column_count as count_of};
+ghost use Rattle.rw_cover_matrix.specs.Columns.{AreWithin, AreGroups, HasMissing, grown_cell, grown, shorter_cell, shorter, shorter_rows, column_count as count_of};
+ghost use Rattle.rw_cover_matrix.specs.Owing.{IsNeeded};
 
 use crate::Pattern;
 use crate::measures::column_count;
@@ -9,7 +10,7 @@ use rw_base::OutOfMemory;
 use sqlite_items::Items;
 use std::alloc::Global;
 
-// Rows without their last column.
+// Rows without their last column. Each group has to cover with the shorter rows behind it.
 #[derive(Drop)]
 pub struct Sorted {
     // The rows with the constructor that has this place, the parts of its pattern in the place of the column.
@@ -29,7 +30,52 @@ fn no_groups(alloc: Global, count: usize) -> Result<Vec<Items<Items<Pattern>>>, 
     Ok(groups)
 }
 
+// Whether some group has no rows, or there is none.
+fn lacks_some(groups: &[Items<Items<Pattern>>]) -> bool
+    ensures some { IsTrue result → HasMissing (map plain_rows groups.now) }
+    ensures all { result ≡ false → 0 < length groups.now }
+{
+    for group in groups {
+        if group.is_empty() {
+            return true;
+        }
+    }
+    groups.is_empty()
+}
+
 impl Sorted {
+    // Rows as one group, without shorter rows.
+    pub fn whole(alloc: Global, rows: Items<Items<Pattern>>) -> Result<Sorted, OutOfMemory>
+        ensures { IfOk result (λ all. (all.groups.items ≡ rows ∷ []) × (all.shorter ≡ [])) }
+    {
+        Sorted::alone(alloc, rows, Items::new(alloc))
+    }
+
+    // One group, with shorter rows.
+    fn alone(
+        alloc: Global,
+        group: Items<Items<Pattern>>,
+        shorter: Items<Items<Pattern>>,
+    ) -> Result<Sorted, OutOfMemory>
+        ensures { IfOk result (λ all. (all.groups.items ≡ group ∷ []) × (all.shorter ≡ shorter)) }
+    {
+        let mut groups = Vec::new(alloc);
+        groups.push(group)?;
+        Ok(Sorted { groups, shorter })
+    }
+
+    // What has to cover of these. Where a constructor of the column's type stands in no row, the shorter rows have to cover
+    // its values, and then they cover those of the others as well.
+    pub fn needed(self, alloc: Global) -> Result<Sorted, OutOfMemory>
+        ensures { IfOk result (IsNeeded self) }
+    {
+        if lacks_some(self.groups.as_slice()) {
+            Sorted::alone(alloc, Items::new(alloc), self.shorter)
+        } else {
+            Ok(self)
+        }
+    }
+
     // One row more in the group with this place. A place without a group is that of no constructor.
     fn put(&mut self, place: usize, row: Items<Pattern>) -> Result<(), OutOfMemory>
         ensures count { OnOk result (length self.new.groups.items ≡ length self.old.groups.items) }
