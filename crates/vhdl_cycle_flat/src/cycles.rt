@@ -59,7 +59,7 @@ fn delta(
     requires room { vec_len out.old + room_ran processes.now (length store.old) next.old ≤ vec_capacity out.old }
     ensures value { record { now = now.new; before = before.new; next = next.new; pending = pending.new; starting = starting.new } ≡ delta_of processes.now (length store.old) (record { now = now.old; before = before.old; next = next.old; pending = pending.old; starting = starting.old }) }
     ensures same { out.new.items ≡ out.old.items }
-    ensures capacity { vec_capacity out.old ≤ vec_capacity out.new }
+    ensures capacity { vec_capacity out.new ≡ vec_capacity out.old }
 {
     before.copy_from_slice(now);
     now.copy_from_slice(next);
@@ -98,7 +98,7 @@ pub fn settle(
     ensures value { IsSettling processes.now (length store.old) 64 (record { now = now.old; before = before.old; next = next.old; pending = pending.old; starting = starting.old }) (record { now = now.new; before = before.new; next = next.new; pending = pending.new; starting = starting.new }) result }
     ensures reaches { Reaches processes.now (length store.old) (record { now = now.old; before = before.old; next = next.old; pending = pending.old; starting = starting.old }) (record { now = now.new; before = before.new; next = next.new; pending = pending.new; starting = starting.new }) }
     ensures same { out.new.items ≡ out.old.items }
-    ensures capacity { vec_capacity out.old ≤ vec_capacity out.new }
+    ensures capacity { vec_capacity out.new ≡ vec_capacity out.old }
 {
     for count in 0..65 {
         if quiet(*starting, pending) {

@@ -22,7 +22,7 @@ fn checks(check: &Check, w: World, now: &[Bit9], store: &mut [Bit9], out: &mut V
     requires { vec_len out.old + room_check check.now (length store.old) now.now ≤ vec_capacity out.old }
     ensures value { result ≡ check_of check.now w (length store.old) now.now }
     ensures same { out.new.items ≡ out.old.items }
-    ensures capacity { vec_capacity out.old ≤ vec_capacity out.new }
+    ensures capacity { vec_capacity out.new ≡ vec_capacity out.old }
 {
     match check {
         Check::Equal(test) => holds(test, now, store, out),
@@ -41,7 +41,7 @@ fn all_check(
     requires { vec_len out.old + room_checks tests.now (length store.old) now.now ≤ vec_capacity out.old }
     ensures value { result ≡ all_hold tests.now w (length store.old) now.now }
     ensures same { out.new.items ≡ out.old.items }
-    ensures capacity { vec_capacity out.old ≤ vec_capacity out.new }
+    ensures capacity { vec_capacity out.new ≡ vec_capacity out.old }
 {
     for check in tests {
         if !checks(check, w, now, store, out) {
@@ -62,7 +62,7 @@ fn assign(
     requires { vec_len out.old + (expr_of e.now).room (length store.old) now.now ≤ vec_capacity out.old }
     ensures value { next.new ≡ written from ((expr_of e.now).value (length store.old) now.now) next.old }
     ensures same { out.new.items ≡ out.old.items }
-    ensures capacity { vec_capacity out.old ≤ vec_capacity out.new }
+    ensures capacity { vec_capacity out.new ≡ vec_capacity out.old }
 {
     if let Some(bits) = standing(e, now) {
         put(next, from, bits);
@@ -87,7 +87,7 @@ fn drive_all(
     requires { vec_len out.old + room_in_order (map drive_of body.now) (length store.old) now.now ≤ vec_capacity out.old }
     ensures value { record { next = next.new; pending = pending.new } ≡ in_order (map drive_of body.now) w (length store.old) now.now (record { next = next.old; pending = pending.old }) }
     ensures same { out.new.items ≡ out.old.items }
-    ensures capacity { vec_capacity out.old ≤ vec_capacity out.new }
+    ensures capacity { vec_capacity out.new ≡ vec_capacity out.old }
 {
     for stmt in body {
         drive(stmt, w, now, next, pending, store, out);
@@ -107,7 +107,7 @@ fn drive(
     requires { vec_len out.old + (drive_of stmt.now).room (length store.old) now.now ≤ vec_capacity out.old }
     ensures value { record { next = next.new; pending = pending.new } ≡ (drive_of stmt.now).after w (length store.old) now.now (record { next = next.old; pending = pending.old }) }
     ensures same { out.new.items ≡ out.old.items }
-    ensures capacity { vec_capacity out.old ≤ vec_capacity out.new }
+    ensures capacity { vec_capacity out.new ≡ vec_capacity out.old }
 {
     match stmt {
         Drive::Assign(at, from, e) => {
@@ -154,7 +154,7 @@ pub fn run_processes(
     requires { vec_len out.old + room_ran processes.now (length store.old) now.now ≤ vec_capacity out.old }
     ensures value { record { next = next.new; pending = pending.new } ≡ ran processes.now starting before.now w (length store.old) now.now (record { next = next.old; pending = pending.old }) }
     ensures same { out.new.items ≡ out.old.items }
-    ensures capacity { vec_capacity out.old ≤ vec_capacity out.new }
+    ensures capacity { vec_capacity out.new ≡ vec_capacity out.old }
 {
     for process in processes {
         if starting || event(now, before, process.sensitive.as_slice()) {

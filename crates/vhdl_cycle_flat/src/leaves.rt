@@ -14,12 +14,15 @@ pub fn part(frame: &[Bit9], from: u32, len: u32) -> &[Bit9]
     &rest[..rest.len().min(len as usize)]
 }
 
+// Appends bits where there is room for them. One by one: what std says of a whole slice leaves open whether the room grows.
 pub fn append(out: &mut Vec<Bit9>, bits: &[Bit9])
     requires { vec_len out.old + length bits.now ≤ vec_capacity out.old }
     ensures value { out.new.items ≡ out.old.items ++ bits.now }
-    ensures capacity { vec_capacity out.old ≤ vec_capacity out.new }
+    ensures capacity { vec_capacity out.new ≡ vec_capacity out.old }
 {
-    let _ = out.extend_from_slice(bits);
+    for bit in bits {
+        out.push_reserved(*bit);
+    }
 }
 
 pub fn equal(a: &[Bit9], b: &[Bit9]) -> bool

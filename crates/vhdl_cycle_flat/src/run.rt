@@ -24,7 +24,7 @@ pub fn standing<'a>(e: &'a Expr, frame: &'a [Bit9]) -> Option<&'a [Bit9]>
 pub fn append_expr(out: &mut Vec<Bit9>, e: &Expr, frame: &[Bit9], store: &mut [Bit9])
     requires { vec_len out.old + (expr_of e.now).room (length store.old) frame.now ≤ vec_capacity out.old }
     ensures value { out.new.items ≡ out.old.items ++ (expr_of e.now).value (length store.old) frame.now }
-    ensures capacity { vec_capacity out.old ≤ vec_capacity out.new }
+    ensures capacity { vec_capacity out.new ≡ vec_capacity out.old }
 {
     match e {
         Expr::Part(from, len) => append(out, part(frame, *from, *len)),
@@ -51,7 +51,7 @@ pub fn append_expr(out: &mut Vec<Bit9>, e: &Expr, frame: &[Bit9], store: &mut [B
 fn append_all(out: &mut Vec<Bit9>, parts: &[Expr], frame: &[Bit9], store: &mut [Bit9])
     requires { vec_len out.old + room_joined (map expr_of parts.now) (length store.old) frame.now ≤ vec_capacity out.old }
     ensures value { out.new.items ≡ out.old.items ++ joined (map expr_of parts.now) (length store.old) frame.now }
-    ensures capacity { vec_capacity out.old ≤ vec_capacity out.new }
+    ensures capacity { vec_capacity out.new ≡ vec_capacity out.old }
 {
     for part in parts {
         append_expr(out, part, frame, store);
@@ -63,7 +63,7 @@ fn call(out: &mut Vec<Bit9>, start: usize, fun: &Fun, store: &mut [Bit9])
     requires within { start ≤ vec_len out.old }
     requires room { start + room_called (fun_of fun.now) (length store.old) (drop start out.old.items) ≤ vec_capacity out.old }
     ensures value { out.new.items ≡ take start out.old.items ++ called (fun_of fun.now) (length store.old) (drop start out.old.items) }
-    ensures capacity { vec_capacity out.old ≤ vec_capacity out.new }
+    ensures capacity { vec_capacity out.new ≡ vec_capacity out.old }
 {
     let low = store.len().min(fun.from as usize);
     let (lower, rest) = store.split_at_mut(low);
@@ -78,7 +78,7 @@ fn call(out: &mut Vec<Bit9>, start: usize, fun: &Fun, store: &mut [Bit9])
 fn run_frame(out: &mut Vec<Bit9>, fun: &Fun, own: &mut [Bit9], lower: &mut [Bit9])
     requires { vec_len out.old + (fun_of fun.now).run.room (length lower.old) own.old ≤ vec_capacity out.old }
     ensures value { out.new.items ≡ out.old.items ++ (fun_of fun.now).run.value (length lower.old) own.old }
-    ensures capacity { vec_capacity out.old ≤ vec_capacity out.new }
+    ensures capacity { vec_capacity out.new ≡ vec_capacity out.old }
 {
     run_all(fun.body.as_slice(), own, lower, out);
     append_expr(out, &fun.result, own, lower);
@@ -90,7 +90,7 @@ pub fn run_all(body: &[Stmt], own: &mut [Bit9], lower: &mut [Bit9], out: &mut Ve
     requires { vec_len out.old + room_in_order (map stmt_of body.now) (length lower.old) own.old ≤ vec_capacity out.old }
     ensures value { own.new ≡ in_order (map stmt_of body.now) (length lower.old) own.old }
     ensures same { out.new.items ≡ out.old.items }
-    ensures capacity { vec_capacity out.old ≤ vec_capacity out.new }
+    ensures capacity { vec_capacity out.new ≡ vec_capacity out.old }
 {
     for stmt in body {
         run(stmt, own, lower, out);
@@ -102,7 +102,7 @@ fn assign(own: &mut [Bit9], from: u32, e: &Expr, lower: &mut [Bit9], out: &mut V
     requires { vec_len out.old + (expr_of e.now).room (length lower.old) own.old ≤ vec_capacity out.old }
     ensures value { own.new ≡ written from ((expr_of e.now).value (length lower.old) own.old) own.old }
     ensures same { out.new.items ≡ out.old.items }
-    ensures capacity { vec_capacity out.old ≤ vec_capacity out.new }
+    ensures capacity { vec_capacity out.new ≡ vec_capacity out.old }
 {
     match e {
         Expr::Literal(bits) => put(own, from, bits.as_slice()),
@@ -121,7 +121,7 @@ fn run(stmt: &Stmt, own: &mut [Bit9], lower: &mut [Bit9], out: &mut Vec<Bit9>)
     requires { vec_len out.old + (stmt_of stmt.now).room (length lower.old) own.old ≤ vec_capacity out.old }
     ensures value { own.new ≡ (stmt_of stmt.now).after (length lower.old) own.old }
     ensures same { out.new.items ≡ out.old.items }
-    ensures capacity { vec_capacity out.old ≤ vec_capacity out.new }
+    ensures capacity { vec_capacity out.new ≡ vec_capacity out.old }
 {
     match stmt {
         Stmt::Assign(from, e) => assign(own, *from, e, lower, out),
@@ -149,7 +149,7 @@ fn all_hold(tests: &[Test], own: &[Bit9], lower: &mut [Bit9], out: &mut Vec<Bit9
     requires { vec_len out.old + room_tests (map test_of tests.now) (length lower.old) own.now ≤ vec_capacity out.old }
     ensures value { result ≡ all_of (map test_of tests.now) (length lower.old) own.now }
     ensures same { out.new.items ≡ out.old.items }
-    ensures capacity { vec_capacity out.old ≤ vec_capacity out.new }
+    ensures capacity { vec_capacity out.new ≡ vec_capacity out.old }
 {
     for test in tests {
         if !holds(test, own, lower, out) {
@@ -164,7 +164,7 @@ pub fn holds(test: &Test, own: &[Bit9], lower: &mut [Bit9], out: &mut Vec<Bit9>)
     requires { vec_len out.old + (test_of test.now).room (length lower.old) own.now ≤ vec_capacity out.old }
     ensures value { result ≡ (test_of test.now).holds (length lower.old) own.now }
     ensures same { out.new.items ≡ out.old.items }
-    ensures capacity { vec_capacity out.old ≤ vec_capacity out.new }
+    ensures capacity { vec_capacity out.new ≡ vec_capacity out.old }
 {
     if let Some(bits) = standing(&test.left, own) {
         return equal(bits, test.bits.as_slice());

@@ -15,6 +15,6 @@ invariant-loop-count l =
       reached : s ≡ cycles_of l.processes n l.count first;
       not_before : (j : ℕ) → j < l.count → is_quiet (cycles_of l.processes n j first) ≡ false;
       same : l.out.items ≡ l.fn.out.items;
-      capacity : vec_capacity l.fn.out ≤ vec_capacity l.out;
+      capacity : vec_capacity l.out ≡ vec_capacity l.fn.out;
       room : (frame : Bits) → vec_len l.out + room_ran l.processes n frame ≤ vec_capacity l.out;
     }

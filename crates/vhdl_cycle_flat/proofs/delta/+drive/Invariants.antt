@@ -12,7 +12,7 @@ invariant-drive-loop-row l =
     record {
       value : first_taken rest other l.w n l.now s ≡ (drive_of l.stmt).after l.w n l.now first;
       same : l.out.items ≡ l.fn.out.items;
-      capacity : vec_capacity l.fn.out ≤ vec_capacity l.out;
+      capacity : vec_capacity l.out ≡ vec_capacity l.fn.out;
       room : vec_len l.out + room_first rest other n l.now ≤ vec_capacity l.out;
     }
 
@@ -25,6 +25,6 @@ invariant-drive_all-loop-stmt l =
     record {
       value : in_order rest l.w n l.now s ≡ in_order (map drive_of l.body) l.w n l.now first;
       same : l.out.items ≡ l.fn.out.items;
-      capacity : vec_capacity l.fn.out ≤ vec_capacity l.out;
+      capacity : vec_capacity l.out ≡ vec_capacity l.fn.out;
       room : vec_len l.out + room_in_order rest n l.now ≤ vec_capacity l.out;
     }

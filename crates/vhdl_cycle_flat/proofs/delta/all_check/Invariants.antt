@@ -9,6 +9,6 @@ invariant-loop-check l =
     record {
       value : all_hold rest l.w n l.now ≡ all_hold l.tests l.w n l.now;
       same : l.out.items ≡ l.fn.out.items;
-      capacity : vec_capacity l.fn.out ≤ vec_capacity l.out;
+      capacity : vec_capacity l.out ≡ vec_capacity l.fn.out;
       room : vec_len l.out + room_checks rest n l.now ≤ vec_capacity l.out;
     }

@@ -11,6 +11,6 @@ invariant-loop-process l =
     record {
       value : ran rest l.starting l.before l.w n l.now s ≡ ran l.processes l.starting l.before l.w n l.now first;
       same : l.out.items ≡ l.fn.out.items;
-      capacity : vec_capacity l.fn.out ≤ vec_capacity l.out;
+      capacity : vec_capacity l.out ≡ vec_capacity l.fn.out;
       room : vec_len l.out + room_ran rest n l.now ≤ vec_capacity l.out;
     }

@@ -10,7 +10,7 @@ invariant-all_hold-loop-test l =
     record {
       value : all_of rest n l.own ≡ all_of (map test_of l.tests) n l.own;
       same : l.out.items ≡ l.fn.out.items;
-      capacity : vec_capacity l.fn.out ≤ vec_capacity l.out;
+      capacity : vec_capacity l.out ≡ vec_capacity l.fn.out;
       room : vec_len l.out + room_tests rest n l.own ≤ vec_capacity l.out;
     }
 
@@ -20,7 +20,7 @@ invariant-append_all-loop-part l =
     let n = length l.store in
     record {
       value : l.out.items ++ joined rest n l.frame ≡ l.fn.out.items ++ joined (map expr_of l.parts) n l.frame;
-      capacity : vec_capacity l.fn.out ≤ vec_capacity l.out;
+      capacity : vec_capacity l.out ≡ vec_capacity l.fn.out;
       room : vec_len l.out + room_joined rest n l.frame ≤ vec_capacity l.out;
     }
 
@@ -32,7 +32,7 @@ invariant-run-loop-branch l =
     record {
       value : first_taken rest other n l.own ≡ (stmt_of l.stmt).after n l.fn.own;
       same : l.out.items ≡ l.fn.out.items;
-      capacity : vec_capacity l.fn.out ≤ vec_capacity l.out;
+      capacity : vec_capacity l.out ≡ vec_capacity l.fn.out;
       room : vec_len l.out + room_first rest other n l.own ≤ vec_capacity l.out;
     }
 
@@ -43,6 +43,6 @@ invariant-run_all-loop-stmt l =
     record {
       value : in_order rest n l.own ≡ in_order (map stmt_of l.body) n l.fn.own;
       same : l.out.items ≡ l.fn.out.items;
-      capacity : vec_capacity l.fn.out ≤ vec_capacity l.out;
+      capacity : vec_capacity l.out ≡ vec_capacity l.fn.out;
       room : vec_len l.out + room_in_order rest n l.own ≤ vec_capacity l.out;
     }
