@@ -1,7 +1,9 @@
 -- What a simulator stands for: the design that it runs and the state that it is in; and what its calls answer.
-use Rattle.std.specs.Prelude.{◌≡◌, ℕ, ◌-◌, ◌^◌, min, [], ◌∷◌, Option, Some, None, Result, Ok, Err, codes}
+use Rattle.std.specs.Prelude.{◌≡◌, ℕ, ◌-◌, ◌^◌, ◌≤◌, min, [], ◌∷◌, false, Option, Some, None, Result, Ok, Err, codes, vec_capacity}
 use Rattle.vh_tree.specs.Bits.{Bytes, Bits}
+use Rattle.vh_tree.specs.DeltaCycle.{Orders, cycles, is_quiet}
 use Rattle.vh_tree.specs.Bench.{set_port}
+use Rattle.vh_tree_laws.specs.Laws.{IsFirstQuiet}
 use Rattle.vh_tree.specs.StaticRules.{IsStatic, process_vars}
 use Rattle.vh_tree.specs.declared.design.Design.{Design}
 use Rattle.vh_tree.specs.declared.wire.State.{State}
@@ -40,6 +42,15 @@ state_of d sim = state_at d (flat_of sim)
 abbrev pub change_of : Sim → ℕ
 change_of sim = sim.change
 
+-- each buffer has the room that it had: none was given memory
+pub record IsSameRoom (old new : Sim) : Type 0 where
+  pub current : vec_capacity new.current ≡ vec_capacity old.current
+  pub before : vec_capacity new.before ≡ vec_capacity old.before
+  pub next : vec_capacity new.next ≡ vec_capacity old.next
+  pub pending : vec_capacity new.pending ≡ vec_capacity old.pending
+  pub store : vec_capacity new.store ≡ vec_capacity old.store
+  pub scratch : vec_capacity new.scratch ≡ vec_capacity old.scratch
+
 -- how many delta cycles a change has at most
 unfoldable pub most_cycles : ℕ
 most_cycles = 64
@@ -57,6 +68,12 @@ given_with rst input s = set_port (codes "rst") (rst ∷ []) (set_port (codes "c
 abbrev pub IsSettled : Option Settled → ℕ → State → Result ℕ NotSettled → Type 0
 IsSettled expected change new (Ok count) = expected ≡ Some (record { state = new; count = count })
 IsSettled expected change new (Err fault) = (expected ≡ None) × (fault.0 ≡ change)
+
+-- the simulator is in the first quiet state among those after each number of delta cycles, and the answer is this number; or
+-- none up to the most is quiet
+abbrev pub IsFirstQuietNow : Design → Orders → State → State → Result ℕ NotSettled → Type 0
+IsFirstQuietNow d orders s new (Ok count) = IsFirstQuiet d orders most_cycles s (record { state = new; count = count })
+IsFirstQuietNow d orders s new (Err fault) = (k : ℕ) → k ≤ most_cycles → is_quiet (cycles d orders k s) ≡ false
 
 -- the simulator is in the state that changes lead to; or one of them isn't quiet in time, and the answer is its number
 abbrev pub IsChanged : Result State ℕ → State → Result Unit NotSettled → Type 0

@@ -8,7 +8,7 @@ use crate::filled::filled;
 use rw_base::{Bit9, OutOfMemory};
 use std::alloc::Global;
 use vh_tree::Design;
-use vh_tree_laws::order_law;
+use vh_tree_laws::{order_law, settling_law};
 use vhdl_cycle_flat::{Resolved, Slot, settle};
 use vhdl_cycle_laws::{cycles_law, port_law};
 use vhdl_cycle_resolve::resolve;
@@ -26,7 +26,7 @@ const RST: Slot = Slot {
     len: 1,
 };
 
-/// A simulator of one design. It takes no memory once it is made.
+/// A simulator of one design. It takes no memory once it is made: each buffer keeps the room that it has.
 #[derive(Drop)]
 pub struct Sim {
     resolved: Resolved,
@@ -53,7 +53,7 @@ impl Sim {
     ghost use Rattle.vh_tree.specs.Bench.{Schedule, IsSchedule, text_schedule, settled, start_of, clocked, or_change, edge as rising, outp_of};
     ghost use Rattle.vh_tree.specs.StaticRules.{IsStatic};
     ghost use Rattle.vh_tree.specs.declared.design.Design.{Design};
-    ghost use Rattle.vhdl_cycle.specs.Simulating.{Simulates, state_of, change_of, most_cycles, last_change, given_with, IsSettled, IsChanged};
+    ghost use Rattle.vhdl_cycle.specs.Simulating.{Simulates, state_of, change_of, most_cycles, last_change, given_with, IsSettled, IsFirstQuietNow, IsChanged, IsSameRoom};
 
     /// A simulator at the start of the bench, with `clk` '0', `rst` '1' and `inp` all '0' pending, which is change 1 and
     /// isn't settled. The static rules hold of the design.
@@ -82,10 +82,14 @@ impl Sim {
             IsSettled (settled d (text_schedule d (change_of self.old)) most_cycles (state_of d self.old)) (change_of self.old) (state_of d self.new) result }
         ensures every_order { (d : Design) → Simulates d self.old → (orders : Orders) → AreOrders d orders →
             IsSettled (settled d orders most_cycles (state_of d self.old)) (change_of self.old) (state_of d self.new) result }
+        ensures first_quiet { (d : Design) → Simulates d self.old → (orders : Orders) → AreOrders d orders →
+            IsFirstQuietNow d orders (state_of d self.old) (state_of d self.new) result }
         ensures change { change_of self.new ≡ change_of self.old }
+        ensures room { IsSameRoom self.old self.new }
     {
         cycles_law();
         order_law();
+        settling_law();
         match self.settle_buffers() {
             Some(count) => Ok(count),
             None => Err(NotSettled(self.change)),
@@ -101,6 +105,7 @@ impl Sim {
         ensures every_order { (d : Design) → Simulates d self.old → (schedule : Schedule) → IsSchedule d schedule →
             IsChanged (or_change (change_of self.old + 1) (settled d (schedule (change_of self.old + 1)) most_cycles (rising (state_of d self.old)))) (state_of d self.new) result }
         ensures change { change_of self.new ≡ min (change_of self.old + 1) last_change }
+        ensures room { IsSameRoom self.old self.new }
     {
         order_law();
         port_law();
@@ -118,6 +123,7 @@ impl Sim {
         ensures every_order { (d : Design) → Simulates d self.old → length inp.now ≡ d.inp → (schedule : Schedule) → IsSchedule d schedule →
             IsChanged (clocked most_cycles d schedule (change_of self.old + 1) (given_with rst inp.now (state_of d self.old))) (state_of d self.new) result }
         ensures change { IsOk result → change_of self.new ≡ min (change_of self.old + 2) last_change }
+        ensures room { IsSameRoom self.old self.new }
     {
         order_law();
         port_law();
@@ -149,7 +155,7 @@ impl Sim {
     ghost use Rattle.vh_tree.specs.declared.design.Design.{Design};
     ghost use Rattle.vhdl_cycle_flat.specs.Cycles.{IsSettling, Reaches};
     ghost use Rattle.vhdl_cycle_laws.specs.Changes.{given_at};
-    ghost use Rattle.vhdl_cycle.specs.Simulating.{flat_of, StandsAt, Simulates, state_of, change_of, most_cycles, last_change, IsChanged};
+    ghost use Rattle.vhdl_cycle.specs.Simulating.{flat_of, StandsAt, Simulates, state_of, change_of, most_cycles, last_change, IsChanged, IsSameRoom};
     ghost use Rattle.vhdl_cycle.specs.Buffers.{fresh_flat, IsSameMachine};
 
     // A simulator before the start: all is 'U', and nothing is pending.
@@ -209,6 +215,7 @@ impl Sim {
         ensures given { (d : Design) → Simulates d self.old → (x : Bytes) → StandsAt d x at → length bits.now ≡ at.len →
             state_of d self.new ≡ set_port x bits.now (state_of d self.old) }
         ensures change { change_of self.new ≡ change_of self.old }
+        ensures room { IsSameRoom self.old self.new }
         ensures inp { self.new.inp ≡ self.old.inp }
     {
         port_law();
@@ -220,6 +227,7 @@ impl Sim {
         ensures flat { flat_of self.new ≡ given_at at bits.now (flat_of self.old) }
         ensures same { IsSameMachine self.old self.new }
         ensures change { change_of self.new ≡ change_of self.old }
+        ensures room { IsSameRoom self.old self.new }
     {
         at.give(bits, self.next.as_mut_slice(), self.pending.as_mut_slice());
     }
@@ -230,6 +238,7 @@ impl Sim {
         ensures every_order { (d : Design) → Simulates d self.old → (orders : Orders) → AreOrders d orders → (number : ℕ) → change_of self.old ≡ min number last_change →
             IsChanged (or_change number (settled d orders most_cycles (state_of d self.old))) (state_of d self.new) result }
         ensures change { change_of self.new ≡ change_of self.old }
+        ensures room { IsSameRoom self.old self.new }
     {
         self.settle()?;
         Ok(())
@@ -241,6 +250,7 @@ impl Sim {
         ensures runs { (d : Design) → Simulates d self.old → Simulates d self.new }
         ensures state { (d : Design) → state_of d self.new ≡ state_of d self.old }
         ensures change { change_of self.new ≡ min (change_of self.old + 1) last_change }
+        ensures room { IsSameRoom self.old self.new }
         ensures inp { self.new.inp ≡ self.old.inp }
     {
         self.change = self.change.saturating_add(1);
@@ -252,6 +262,7 @@ impl Sim {
         ensures reaches { Reaches self.old.resolved.processes self.old.resolved.store (flat_of self.old) (flat_of self.new) }
         ensures same { IsSameMachine self.old self.new }
         ensures change { change_of self.new ≡ change_of self.old }
+        ensures room { IsSameRoom self.old self.new }
     {
         settle(
             self.resolved.processes.as_slice(),

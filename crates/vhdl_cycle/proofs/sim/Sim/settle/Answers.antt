@@ -1,6 +1,8 @@
 -- What settling answers, by the laws of buffers and of orders.
+use Rattle.std.proofs.Common.{Ok, Err}
 use Rattle.vh_tree.specs.Bench.{text_schedule}
-use Rattle.vhdl_cycle.proofs.Settling.{runs_on, settles_at, settles_never}
+use Rattle.vhdl_cycle.specs.Simulating.{state_of}
+use Rattle.vhdl_cycle.proofs.Settling.{runs_on, settles_at, settles_never, first_quiet}
 use Rattle.vhdl_cycle.proofs.sim.Sim.settle.Goals as goal
 
 pub returns-in-Some-clause-runs : goal.returns-in-Some-clause-runs
@@ -22,3 +24,13 @@ returns-in-None-clause-value c = λ d runs.
 
 pub returns-in-None-clause-every_order : goal.returns-in-None-clause-every_order
 returns-in-None-clause-every_order c = λ d runs orders are. (settles_never c.cycles_law.ensures.settles c.args.self.now c.settle_buffers.new.self c.in-None.ensures.value d runs orders are, c.settle_buffers.ensures.change)
+
+pub returns-in-Some-clause-first_quiet : goal.returns-in-Some-clause-first_quiet
+returns-in-Some-clause-first_quiet c = λ d runs orders are.
+    first_quiet c.settling_law.ensures d orders (state_of d c.args.self.now) (state_of d c.settle_buffers.new.self) c.args.self.now.change (Ok c.in-Some.count)
+    (settles_at c.cycles_law.ensures.settles c.args.self.now c.settle_buffers.new.self c.in-Some.count c.in-Some.ensures.value d runs orders are)
+
+pub returns-in-None-clause-first_quiet : goal.returns-in-None-clause-first_quiet
+returns-in-None-clause-first_quiet c = λ d runs orders are.
+    first_quiet c.settling_law.ensures d orders (state_of d c.args.self.now) (state_of d c.settle_buffers.new.self) c.args.self.now.change (Err (record { 0 = c.settle_buffers.new.self.change }))
+    (settles_never c.cycles_law.ensures.settles c.args.self.now c.settle_buffers.new.self c.in-None.ensures.value d runs orders are, c.settle_buffers.ensures.change)
