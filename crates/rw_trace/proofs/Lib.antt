@@ -1,3 +1,4 @@
 -- Lemmas about lines.
 mod Cutting
 mod Encoded
+mod Refused

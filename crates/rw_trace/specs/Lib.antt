@@ -1,3 +1,4 @@
 -- The words that public contracts rest on.
 pub mod Traces
 pub mod TraceValues
+pub mod Refused

@@ -6,11 +6,13 @@
 #![tactic(auto)]
 
 mod fail;
+mod laws;
 mod lines;
 mod printed;
 mod values;
 
 pub use fail::TraceFail;
+pub use laws::refused_law;
 pub use lines::to_bits;
 pub use printed::{line, push_line};
 pub use values::to_values;
