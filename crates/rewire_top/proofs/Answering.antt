@@ -7,8 +7,8 @@ use Rattle.rw_base.specs.declared.place.Place.{Place}
 use Rattle.vhdl_bench.specs.declared.fail.BenchFail.{BenchFail}
 use Rattle.vhdl_bench.specs.declared.fail.BenchFail.TheVariants as bench
 use Rattle.rewire_top.specs.Commands.{Command, Check, Compile, Sim, files_of, HoldsAll, KeepsOthers}
-use Rattle.rewire_top.specs.Answers.{Compiles, CompilesInPart, IsRefusedAs, Simulates, Prints, status_of, IsRefusal, IsLater}
-use Rattle.rewire_top.specs.Answered.{Answered, IsUnlessOutside}
+use Rattle.rewire_top.specs.Answers.{Compiles, CompilesInPart, IsRefusedAs, Simulates, Prints, CanBeDone, status_of, IsRefusal, IsLater}
+use Rattle.rewire_top.specs.Answered.{Answered, IsUnlessOutside, IsFaultless}
 use Rattle.rewire_top.specs.declared.status.Status.{Status}
 use Rattle.rewire_top.specs.declared.status.Status.TheVariants as status
 
@@ -43,6 +43,23 @@ pub for_command : {sound loads saves puts : Type 0} {old new : Option Files} {be
     → Answered b sound loads saves puts old new before after s
 for_command {sound} {loads} {saves} {puts} {old} {new} {before} {after} {s} e h = subst (λ (o : Option Command). Answered o sound loads saves puts old new before after s) e h
 
+-- where nothing fails outside, no fault comes
+no_fault : (command : Option Command) (sound loads saves puts : Type 0) (old : Option Files) (s : Status) → (s ≡ status.ReadFault → loads) → (sound → IfTold (HoldsAll (files_of command)) old → s ≢ status.ReadFault)
+    → (s ≡ status.WriteFault → saves ⊎ puts) → (s ≡ status.WriteFault → sound → puts) → (files : Files) → old ≡ Some files → IsFaultless command sound loads saves puts files
+    → (s ≡ status.Ok) ⊎ (s ≡ status.ReadFault) ⊎ (s ≡ status.WriteFault) ⊎ (s ≡ status.OutOfMemory) → (s ≡ status.Ok) ⊎ (s ≡ status.OutOfMemory)
+no_fault command sound loads saves puts old s read read_sound write write_sound files held f (inl e) = inl e
+no_fault command sound loads saves puts old s read read_sound write write_sound files held (inl f) (inr (inl e)) = absurd (f.0 (read e))
+no_fault command sound loads saves puts old s read read_sound write write_sound files held (inr f) (inr (inl e)) =
+    absurd (read_sound f.0 (subst (IfTold (HoldsAll (files_of command))) (sym held) f.1) e)
+no_fault command sound loads saves puts old s read read_sound write write_sound files held (inl f) (inr (inr (inl e))) = elim (write e) [ inl x ↦ absurd (f.1 x) | inr x ↦ absurd (f.2 x) ]
+no_fault command sound loads saves puts old s read read_sound write write_sound files held (inr f) (inr (inr (inl e))) = absurd (f.2 (write_sound e f.0))
+no_fault command sound loads saves puts old s read read_sound write write_sound files held f (inr (inr (inr e))) = inr e
+
+read_alone : (s : Status) → (s ≡ status.Ok) ⊎ (s ≡ status.ReadFault) ⊎ (s ≡ status.OutOfMemory) → (s ≡ status.Ok) ⊎ (s ≡ status.ReadFault) ⊎ (s ≡ status.WriteFault) ⊎ (s ≡ status.OutOfMemory)
+read_alone s (inl e) = inl e
+read_alone s (inr (inl e)) = inr (inl e)
+read_alone s (inr (inr e)) = inr (inr (inr e))
+
 module _ (sound loads saves puts : Type 0) (old new : Option Files) (before after : Option (List ℕ)) (s : Status) where
   pub of_usage : s ≡ status.Usage → new ≡ old → after ≡ before → Answered None sound loads saves puts old new before after s
   of_usage usage same quiet = record {
@@ -54,6 +71,7 @@ module _ (sound loads saves puts : Type 0) (old new : Option Files) (before afte
     no_other = λ l. absurd (subst IsLater usage l);
     later = λ fail other e. absurd (never_later s (λ l. subst IsLater usage l) fail other e);
     later_where = λ files held fail r. absurd r;
+    complete = λ files held can f. absurd can;
     ok = λ e. absurd (cc);
     part = λ e. absurd (cc);
     others = told_same (KeepsOthers None) old new (λ files name not. refl) same;
@@ -67,8 +85,8 @@ module _ (sound loads saves puts : Type 0) (old new : Option Files) (before afte
       → (s ≡ status.Ok → IfTold (λ files. Compiles (Some (Check file)) files files) old)
       → ((rule : Rule) (place : Place) → s ≡ status.Refused rule place → IfTold (λ files. IsRefusedAs (Some (Check file)) files rule place) old)
       → ((files : Files) (rule : Rule) (place : Place) → old ≡ Some files → IsRefusedAs (Some (Check file)) files rule place → IsUnlessOutside (status.Refused rule place) s)
-      → (IsLater s → ⊥) → Answered (Some (Check file)) sound loads saves puts old new before after s
-  of_check file read read_sound no_write same quiet ok refused refused_where not = record {
+      → (IsLater s → ⊥) → ((files : Files) → old ≡ Some files → CanBeDone (Some (Check file)) files → (s ≡ status.Ok) ⊎ (s ≡ status.ReadFault) ⊎ (s ≡ status.OutOfMemory)) → Answered (Some (Check file)) sound loads saves puts old new before after s
+  of_check file read read_sound no_write same quiet ok refused refused_where not complete = record {
     read_fault = read;
     read_fault_sound = read_sound;
     write_fault = λ e. absurd (no_write e);
@@ -77,6 +95,8 @@ module _ (sound loads saves puts : Type 0) (old new : Option Files) (before afte
     no_other = λ l. absurd (not l);
     later = λ fail other e. absurd (never_later s not fail other e);
     later_where = λ files held fail r. absurd r;
+    complete = λ files held can f.
+        no_fault (Some (Check file)) sound loads saves puts old s read read_sound (λ e. absurd (no_write e)) (λ e. absurd (no_write e)) files held f (read_alone s (complete files held can));
     ok = λ e. told_alike (Compiles (Some (Check file))) old new same (ok e);
     part = λ e. absurd (no_write e);
     others = told_same (KeepsOthers (Some (Check file))) old new (λ files name not. refl) same;
@@ -91,8 +111,10 @@ module _ (sound loads saves puts : Type 0) (old new : Option Files) (before afte
       → (s ≡ status.Ok → Told (Compiles (Some (Compile file target))) old new) → (s ≡ status.WriteFault → Told (CompilesInPart (Some (Compile file target))) old new)
       → ((rule : Rule) (place : Place) → s ≡ status.Refused rule place → IfTold (λ files. IsRefusedAs (Some (Compile file target)) files rule place) old)
       → ((files : Files) (rule : Rule) (place : Place) → old ≡ Some files → IsRefusedAs (Some (Compile file target)) files rule place → IsUnlessOutside (status.Refused rule place) s)
-      → (IsLater s → ⊥) → Answered (Some (Compile file target)) sound loads saves puts old new before after s
-  of_compile file target read read_sound write others kept quiet ok part refused refused_where not = record {
+      → (IsLater s → ⊥) → (sound → s ≢ status.WriteFault)
+      → ((files : Files) → old ≡ Some files → CanBeDone (Some (Compile file target)) files → (s ≡ status.Ok) ⊎ (s ≡ status.ReadFault) ⊎ (s ≡ status.WriteFault) ⊎ (s ≡ status.OutOfMemory))
+      → Answered (Some (Compile file target)) sound loads saves puts old new before after s
+  of_compile file target read read_sound write others kept quiet ok part refused refused_where not write_sound complete = record {
     read_fault = read;
     read_fault_sound = read_sound;
     write_fault = write;
@@ -101,6 +123,8 @@ module _ (sound loads saves puts : Type 0) (old new : Option Files) (before afte
     no_other = λ l. absurd (not l);
     later = λ fail other e. absurd (never_later s not fail other e);
     later_where = λ files held fail r. absurd r;
+    complete = λ files held can f.
+        no_fault (Some (Compile file target)) sound loads saves puts old s read read_sound (λ e. inl (write e)) (λ e is. absurd (write_sound is e)) files held f (complete files held can);
     ok = ok;
     part = part;
     others = others;
@@ -113,10 +137,11 @@ module _ (sound loads saves puts : Type 0) (old new : Option Files) (before afte
   pub of_sim : (vhdl trace : List ℕ) → (s ≡ status.ReadFault → loads) → (sound → IfTold (HoldsAll (files_of (Some (Sim vhdl trace)))) old → s ≢ status.ReadFault) → (s ≡ status.WriteFault → puts) → new ≡ old
       → (IsRefusal s → ⊥) → ((fail : BenchFail) → fail ≢ bench.OutOfMemory → s ≡ status_of fail → IfTold (λ files. Simulates (Some (Sim vhdl trace)) files (Err fail)) old)
       → ((files : Files) → old ≡ Some files → (fail : BenchFail) → Simulates (Some (Sim vhdl trace)) files (Err fail) → IsUnlessOutside (status_of fail) s)
+      → ((files : Files) → old ≡ Some files → CanBeDone (Some (Sim vhdl trace)) files → (s ≡ status.Ok) ⊎ (s ≡ status.ReadFault) ⊎ (s ≡ status.WriteFault) ⊎ (s ≡ status.OutOfMemory))
       → (s ≡ status.Ok → (text : List ℕ) × IfTold (Prints (Some (Sim vhdl trace)) text) old × Told (Appended text) before after)
       → (s ≡ status.WriteFault → (text : List ℕ) × IfTold (Prints (Some (Sim vhdl trace)) text) old × Told (AppendedPrefix text) before after)
       → (s ≢ status.Ok → s ≢ status.WriteFault → after ≡ before) → Answered (Some (Sim vhdl trace)) sound loads saves puts old new before after s
-  of_sim vhdl trace read read_sound write same not later later_where shown part quiet = record {
+  of_sim vhdl trace read read_sound write same not later later_where complete shown part quiet = record {
     read_fault = read;
     read_fault_sound = read_sound;
     write_fault = write;
@@ -125,6 +150,8 @@ module _ (sound loads saves puts : Type 0) (old new : Option Files) (before afte
     no_other = λ l. tt;
     later = later;
     later_where = later_where;
+    complete = λ files held can f.
+        no_fault (Some (Sim vhdl trace)) sound loads saves puts old s read read_sound (λ e. inr (write e)) (λ e _. write e) files held f (complete files held can);
     ok = λ e. told_same (Compiles (Some (Sim vhdl trace))) old new (λ _. tt) same;
     part = λ e. told_same (CompilesInPart (Some (Sim vhdl trace))) old new (λ _. tt) same;
     others = told_same (KeepsOthers (Some (Sim vhdl trace))) old new (λ files name not. refl) same;
@@ -147,6 +174,7 @@ module _ (command : Option Command) (sound loads saves puts : Type 0) (old new :
     no_other = λ l. absurd (subst IsLater memory l);
     later = λ fail other e. absurd (never_later s (λ l. subst IsLater memory l) fail other e);
     later_where = λ files held fail r. inr (inr memory);
+    complete = λ files held can f. inr memory;
     ok = λ e. absurd (cc);
     part = λ e. absurd (cc);
     others = a.others;

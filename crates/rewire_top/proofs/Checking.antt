@@ -13,7 +13,7 @@ use Rattle.rw_front.specs.Stages.{IsExactAt}
 use Rattle.rw_front.specs.Verdict.{Verdict}
 use Rattle.rw_front.specs.Fronts.{Fronts}
 use Rattle.rewire_top.specs.Commands.{Check}
-use Rattle.rewire_top.specs.Answers.{most_of_source, Compiles, IsRefusedAs}
+use Rattle.rewire_top.specs.Answers.{most_of_source, Compiles, IsRefusedAs, CanBeDone}
 use Rattle.rewire_top.specs.declared.status.Status.{Status}
 use Rattle.rewire_top.specs.declared.status.Status.TheVariants as status
 use Rattle.rewire_top.proofs.Loading.{one_load}
@@ -56,7 +56,7 @@ status_in (Ok made) = status.Ok
 status_in (Err (fail.Refused r)) = status.Refused r.rule r.place
 status_in (Err fail.OutOfMemory) = status.OutOfMemory
 
-told_of : {A : Type 0} (P : A → Type 0) (held : Option A) (a : A) → held ≡ Some a → IfTold P held → P a
+pub told_of : {A : Type 0} (P : A → Type 0) (held : Option A) (a : A) → held ≡ Some a → IfTold P held → P a
 told_of P held a is p = subst (IfTold P) is p
 
 abbrev is_ok : Result (PlainProgram Span) Refusal → Type 0
@@ -82,3 +82,10 @@ pub exactly : (file source : List ℕ) (held : Option Files) → IfTold (Loads f
 exactly file source held loaded one given fronts files rule place is (other, loads, verdict) =
     let same : other ≡ source = one_load file most_of_source other source files loads (told_of (Loads file most_of_source source) held files is loaded) in
     elim (answered source (one source) given fronts rule place (subst (λ (s : List ℕ). Verdict s (Err (record { rule = rule; place = place }))) same verdict)) [ inl e ↦ inl e | inr e ↦ inr (inr e) ]
+
+-- a source that breaks no rule isn't refused
+pub never_refused : {X : Type 0} (file source : List ℕ) (held : Option Files) → IfTold (Loads file most_of_source source) held → ((bytes : List ℕ) → IsExactAt Verdict bytes) → (r : Refusal) → Fronts source (Err (fail.Refused r))
+    → (files : Files) → held ≡ Some files → CanBeDone (Some (Check file)) files → X
+never_refused file source held loaded one r verdict files is (other, program, loads, accepted) =
+    let same : other ≡ source = one_load file most_of_source other source files loads (told_of (Loads file most_of_source source) held files is loaded) in
+    absurd (subst is_ok (one source (Ok program) (Err r) (subst (λ (s : List ℕ). Verdict s (Ok program)) same accepted) verdict) tt)

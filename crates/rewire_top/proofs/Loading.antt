@@ -5,7 +5,7 @@ use Rattle.vhdl_bench.specs.Showing.{IsSimulated, IsUnlessMemory}
 use Rattle.vhdl_bench.specs.declared.fail.BenchFail.{BenchFail}
 use Rattle.vhdl_bench.specs.declared.fail.BenchFail.TheVariants as bench
 use Rattle.rewire_top.specs.Commands.{Sim}
-use Rattle.rewire_top.specs.Answers.{most_of_vhdl, most_of_trace, Simulates, Prints, status_of}
+use Rattle.rewire_top.specs.Answers.{most_of_vhdl, most_of_trace, Simulates, Prints, CanBeDone, status_of}
 use Rattle.rewire_top.specs.declared.status.Status.{Status}
 use Rattle.rewire_top.specs.declared.status.Status.TheVariants as status
 
@@ -94,3 +94,13 @@ status_given given fail e = elim e [ inl same ↦ inl (ap (λ r. status_of (fail
 
 pub never_failed : {X : Type 0} (lines : List ℕ) (given : Answer) (fail : BenchFail) → given ≡ Ok lines → (given ≡ Err fail) ⊎ (given ≡ Err bench.OutOfMemory) → X
 never_failed lines given fail is e = elim e [ inl same ↦ absurd (cc) | inr memory ↦ absurd (cc) ]
+
+-- what can be shown fails for want of memory alone
+pub want_alone : (vhdl trace text bytes : List ℕ) (held : Option Files) → IfTold (Loads vhdl most_of_vhdl text) held → IfTold (Loads trace most_of_trace bytes) held →
+    (given : BenchFail) → ((other : Answer) → IsSimulated text bytes other → IsUnlessMemory other (Err given)) → (files : Files) → held ≡ Some files → CanBeDone (Some (Sim vhdl trace)) files → status_of given ≡ status.OutOfMemory
+want_alone vhdl trace text bytes held loaded read given only files is (lines, s) =
+    elim (only (Ok lines) (subst (λ b. IsSimulated text b (Ok lines)) (sym (one_load trace most_of_trace bytes s.1 files (told_of _ held files is read) s.3))
+    (subst (λ t. IsSimulated t s.1 (Ok lines)) (sym (one_load vhdl most_of_vhdl text s.0 files (told_of _ held files is loaded) s.2)) s.4))) [
+      | inl same ↦ absurd (cc)
+      | inr memory ↦ ap (λ r. status_of (failure_in r)) memory
+    ]

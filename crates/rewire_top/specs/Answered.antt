@@ -6,13 +6,19 @@ use Rattle.rw_base.specs.declared.place.Place.{Place}
 use Rattle.vhdl_bench.specs.declared.fail.BenchFail.{BenchFail}
 use Rattle.vhdl_bench.specs.declared.fail.BenchFail.TheVariants.{OutOfMemory as WantOfMemory}
 use Rattle.rewire_top.specs.Commands.{Command, files_of, HoldsAll, ReadsSource, PutsText, WriteFailed, KeepsOthers}
-use Rattle.rewire_top.specs.Answers.{Compiles, CompilesInPart, IsRefusedAs, Simulates, Prints, status_of, IsLater}
+use Rattle.rewire_top.specs.Answers.{Compiles, CompilesInPart, IsRefusedAs, Simulates, Prints, CanBeDone, status_of, IsLater}
 use Rattle.rewire_top.specs.declared.status.Status.{Status}
 use Rattle.rewire_top.specs.declared.status.Status.TheVariants.{Ok, Refused, ReadFault, WriteFault, OutOfMemory}
 
 -- this status, or why there is none: a load failed, or memory ran out
 abbrev pub IsUnlessOutside : Status → Status → Type 0
 IsUnlessOutside expected status = (status ≡ expected) ⊎ (status ≡ ReadFault) ⊎ (status ≡ OutOfMemory)
+
+-- nothing fails outside: no count of the store or of `out` rose; or the store is sound and holds each file that the command loads, and the count of
+-- `out` didn't rise
+abbrev pub IsFaultless : Option Command → (sound loads saves puts : Type 0) → Files → Type 0
+IsFaultless command sound loads saves puts files =
+    ((loads → ⊥) × (saves → ⊥) × (puts → ⊥)) ⊎ (sound × HoldsAll (files_of command) files × (puts → ⊥))
 
 -- of a command, where the store is sound, where the counts of failed loads, failed saves and failed puts to `out` rose, what the store held and
 -- holds, and what was written to `out` before and after
@@ -30,6 +36,8 @@ pub record Answered (command : Option Command) (sound loads saves puts : Type 0)
   pub no_other : IsLater status → PutsText command
   pub later : (fail : BenchFail) → fail ≢ WantOfMemory → status ≡ status_of fail → IfTold (λ files. Simulates command files (Err fail)) old
   pub later_where : (files : Files) → old ≡ Some files → (fail : BenchFail) → Simulates command files (Err fail) → IsUnlessOutside (status_of fail) status
+  -- completeness: a command that can be done is done where nothing fails outside, unless memory runs out
+  pub complete : (files : Files) → old ≡ Some files → CanBeDone command files → IsFaultless command sound loads saves puts files → (status ≡ Ok) ⊎ (status ≡ OutOfMemory)
   -- what stands afterwards: after Ok the source is accepted, and the target holds its text; after a write fault a prefix of it, or what it held;
   -- else all is as it was, and no other name changes ever
   pub ok : status ≡ Ok → Told (Compiles command) old new

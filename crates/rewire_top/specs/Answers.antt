@@ -69,6 +69,14 @@ Prints (Some (Check file)) text files = text ≡ []
 Prints (Some (Compile file target)) text files = text ≡ []
 Prints (Some (Sim vhdl trace)) text files = Simulates (Some (Sim vhdl trace)) files (Ok text)
 
+-- a command can be done: the source breaks none of the rules E01 to E16, or is of the explicit form; or the text breaks none of V1 to V8, no line of
+-- the trace is refused, and each change is quiet in time
+abbrev pub CanBeDone : Option Command → Files → Type 0
+CanBeDone None files = ⊥
+CanBeDone (Some (Check file)) files = (source : List ℕ) × (program : PlainProgram Span) × Loads file most_of_source source files × Verdict source (Ok program)
+CanBeDone (Some (Compile file target)) files = (source : List ℕ) × Loads file most_of_source source files × IsExplicitSource source
+CanBeDone (Some (Sim vhdl trace)) files = (text : List ℕ) × Simulates (Some (Sim vhdl trace)) files (Ok text)
+
 -- the status that tells why a simulation prints nothing
 abbrev pub status_of : BenchFail → Status
 status_of (bench.VhdlRefused rule) = VhdlRefused rule

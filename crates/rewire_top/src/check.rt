@@ -4,7 +4,7 @@ ghost use Rattle.rw_base.specs.Outside.{Files, Told, IfTold, Rose};
 ghost use Rattle.rw_base.specs.declared.rule.Rule.{Rule};
 ghost use Rattle.rw_base.specs.declared.place.Place.{Place};
 ghost use Rattle.rewire_top.specs.Commands.{HoldsAll, Check};
-ghost use Rattle.rewire_top.specs.Answers.{Compiles, IsRefusedAs, IsLater};
+ghost use Rattle.rewire_top.specs.Answers.{Compiles, IsRefusedAs, CanBeDone, IsLater};
 
 use crate::Status;
 use crate::compile::MOST_OF_SOURCE;
@@ -24,6 +24,7 @@ pub fn check<S: Store>(alloc: Global, file: &str, store: &mut S) -> Status
     ensures refused_where { (files : Files) (rule : Rule) (place : Place) → S.held store.old ≡ Some files → IsRefusedAs (Some (Check file.now)) files rule place →
         (result ≡ Status.Refused rule place) ⊎ (result ≡ Status.ReadFault) ⊎ (result ≡ Status.OutOfMemory) }
     ensures no_other { IsLater result → ⊥ }
+    ensures complete { (files : Files) → S.held store.old ≡ Some files → CanBeDone (Some (Check file.now)) files → (result ≡ Status.Ok) ⊎ (result ≡ Status.ReadFault) ⊎ (result ≡ Status.OutOfMemory) }
 {
     let source = match store.load(alloc, file, MOST_OF_SOURCE) {
         Err(DeviceError::Failed) => return Status::ReadFault,

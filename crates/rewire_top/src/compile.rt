@@ -4,7 +4,7 @@ ghost use Rattle.rw_base.specs.declared.rule.Rule.{Rule};
 ghost use Rattle.rw_base.specs.declared.place.Place.{Place};
 ghost use Rattle.rw_base.specs.Outside.{Files, Told, IfTold, Rose, OthersKept};
 ghost use Rattle.rewire_top.specs.Commands.{HoldsAll, Compile};
-ghost use Rattle.rewire_top.specs.Answers.{Compiles, CompilesInPart, IsRefusedAs, IsLater};
+ghost use Rattle.rewire_top.specs.Answers.{Compiles, CompilesInPart, IsRefusedAs, CanBeDone, IsLater};
 
 use crate::Status;
 use rw_base::{DeviceError, Place, Rule, Store, Unread};
@@ -27,6 +27,9 @@ pub fn compile<S: Store>(alloc: Global, file: &str, target: &str, store: &mut S)
     ensures refused_where { (files : Files) (rule : Rule) (place : Place) → S.held store.old ≡ Some files → IsRefusedAs (Some (Compile file.now target.now)) files rule place →
         (result ≡ Status.Refused rule place) ⊎ (result ≡ Status.ReadFault) ⊎ (result ≡ Status.OutOfMemory) }
     ensures no_other { IsLater result → ⊥ }
+    ensures write_fault_sound { S.sound store.old → result ≢ Status.WriteFault }
+    ensures complete { (files : Files) → S.held store.old ≡ Some files → CanBeDone (Some (Compile file.now target.now)) files →
+        (result ≡ Status.Ok) ⊎ (result ≡ Status.ReadFault) ⊎ (result ≡ Status.WriteFault) ⊎ (result ≡ Status.OutOfMemory) }
 {
     let source = match store.load(alloc, file, MOST_OF_SOURCE) {
         Err(DeviceError::Failed) => return Status::ReadFault,

@@ -2,7 +2,7 @@
 ghost use Rattle.std.specs.Prelude.{◌≡◌, ◌≢◌, ◌⊎◌, ◌∷◌, [], ℕ, List, Some, Err};
 ghost use Rattle.rw_base.specs.Outside.{Files, Told, IfTold, Rose, Loads, Appended, AppendedPrefix};
 ghost use Rattle.rewire_top.specs.Commands.{HoldsAll, Sim};
-ghost use Rattle.rewire_top.specs.Answers.{Simulates, Prints, status_of, IsRefusal};
+ghost use Rattle.rewire_top.specs.Answers.{Simulates, Prints, CanBeDone, status_of, IsRefusal};
 ghost use Rattle.vhdl_bench.specs.declared.fail.BenchFail.{BenchFail};
 ghost use Rattle.vhdl_bench.specs.declared.fail.BenchFail.TheVariants.{OutOfMemory as WantOfMemory};
 
@@ -44,6 +44,8 @@ pub fn sim<S: Store, O: Sink>(
     ensures refused { IsRefusal result → ⊥ }
     ensures later { (fail : BenchFail) → fail ≢ WantOfMemory → result ≡ status_of fail → IfTold (λ files. Simulates (Some (Sim vhdl.now trace.now)) files (Err fail)) (S.held store.old) }
     ensures later_where { (files : Files) → S.held store.old ≡ Some files → (fail : BenchFail) → Simulates (Some (Sim vhdl.now trace.now)) files (Err fail) → (result ≡ status_of fail) ⊎ (result ≡ Status.ReadFault) ⊎ (result ≡ Status.OutOfMemory) }
+    ensures complete { (files : Files) → S.held store.old ≡ Some files → CanBeDone (Some (Sim vhdl.now trace.now)) files →
+        (result ≡ Status.Ok) ⊎ (result ≡ Status.ReadFault) ⊎ (result ≡ Status.WriteFault) ⊎ (result ≡ Status.OutOfMemory) }
     ensures shown { result ≡ Status.Ok → (text : List ℕ) × IfTold (Prints (Some (Sim vhdl.now trace.now)) text) (S.held store.old) × Told (Appended text) (O.written out.old) (O.written out.new) }
     ensures shown_part { result ≡ Status.WriteFault → (text : List ℕ) × IfTold (Prints (Some (Sim vhdl.now trace.now)) text) (S.held store.old) × Told (AppendedPrefix text) (O.written out.old) (O.written out.new) }
     ensures out_kept { result ≢ Status.Ok → result ≢ Status.WriteFault → O.written out.new ≡ O.written out.old }

@@ -1,7 +1,7 @@
 // The one call of the program.
 ghost use Rattle.std.specs.Prelude.{◌≡◌, ◌≢◌, ◌⊎◌, ◌↔◌, map, string_bytes, None};
 ghost use Rattle.rw_base.specs.Outside.{Told, Rose, Appended, AppendedPrefix};
-ghost use Rattle.rewire_top.specs.Commands.{command_of};
+ghost use Rattle.rewire_top.specs.Commands.{command_of, PutsText};
 ghost use Rattle.rewire_top.specs.Answered.{Answered};
 ghost use Rattle.rewire_top.specs.Printed.{line_of};
 
@@ -54,6 +54,7 @@ fn answer<S: Store, O: Sink>(alloc: Global, words: &[String], store: &mut S, out
     ensures answered { Answered (command_of (map string_bytes words.now)) (S.sound store.old)
         (Rose (S.load_faults store.old) (S.load_faults store.new)) (Rose (S.save_faults store.old) (S.save_faults store.new)) (Rose (O.faults out.old) (O.faults out.new))
         (S.held store.old) (S.held store.new) (O.written out.old) (O.written out.new) result }
+    ensures out_untouched { (PutsText (command_of (map string_bytes words.now)) → ⊥) → out.new ≡ out.old }
 {
     match read_words(words) {
         Asked::Nothing => Status::Usage,
@@ -93,6 +94,9 @@ pub fn rewire<S: Store, O: Sink, E: Sink>(
     ensures answered { Answered (command_of (map string_bytes words.now)) (S.sound store.old)
         (Rose (S.load_faults store.old) (S.load_faults store.new)) (Rose (S.save_faults store.old) (S.save_faults store.new)) (Rose (O.faults out.old) (O.faults out.new))
         (S.held store.old) (S.held store.new) (O.written out.old) (O.written out.new) result }
+
+    // `out` isn't called, also where it tells nothing, unless the command puts a text to it.
+    ensures out_untouched { (PutsText (command_of (map string_bytes words.now)) → ⊥) → out.new ≡ out.old }
 
     // The line goes to `err`.
     ensures silent { result ≡ Status.Ok → E.written err.new ≡ E.written err.old }
