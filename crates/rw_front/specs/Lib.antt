@@ -2,3 +2,4 @@
 pub mod Stages
 pub mod Verdict
 pub mod Fronts
+pub mod PreludeText

@@ -1,4 +1,6 @@
 // The prelude as a text.
+ghost use Rattle.std.specs.Prelude.{◌≡◌};
+ghost use Rattle.rw_front.specs.PreludeText.{prelude_text};
 
 const TEXT: &[u8] = b"\
 infixr 9 .
@@ -52,6 +54,8 @@ when False k = return ()
 /// The text of the prelude, as a source (Haskell 2010 Report, chapter 9, in this project's profile): the declarations that
 /// stand before those of every source. What is judged are their trees, `rw_prelude::prelude_decls`; this text is for
 /// whoever reads them.
-pub fn prelude() -> &'static [u8] {
+pub fn prelude() -> &'static [u8]
+    ensures { result.now ≡ prelude_text }
+{
     TEXT
 }
