@@ -13,8 +13,6 @@ use Rattle.rw_scope_rules.specs.Names.{is_among}
 use Rattle.rw_start.specs.Start.{Start, start_from}
 use Rattle.rw_scope_rules.specs.Nodes.{Node, binding_nodes, group_nodes, declaration_nodes}
 use Rattle.rw_meaning.specs.Systems.{binding_of, SourceSystem, Body, system_of, body_of, start_of}
-use Rattle.rw_systems.specs.Shown.{right_side_of, map_some}
-use Rattle.rw_start.specs.Seen.{wheres_in}
 use Rattle.rw_start.specs.Positions.{beginning, leaves, inner_nodes, barred, strays, without, misplaced_by, misplaced_from, misplaced_with}
 use Rattle.rw_scope_rules.proofs.Lists.{group_as}
 use Rattle.rw_start.proofs.Found.{two, parted}
@@ -55,53 +53,17 @@ module _ (s : Option ℕ) (n : ℕ) (ds : List (Decl Bound)) where
       behind ∙ ap (λ z. z ++ drop 64 given) names ∙ ap (λ z. strays s (nodes (without n (plain ds)) ++ (inner_nodes system ++ groups)) ++ z) devices
       ∙ ap (λ b. strays b (nodes (without n (plain ds)) ++ (inner_nodes system ++ groups)) ++ map beginning (drop 64 (leaves system))) start_is
 
--- a body, from its system and what is bound after its `where`
-pub by_body : (decls : List (Declaration Bound)) (n : ℕ) (body : Option (Body Bound)) (system : SourceSystem) (wheres : LocalBindings Bound)
-    → map_some (system_of binding_of) (right_side_of body) ≡ Some system → wheres_in body ≡ Some wheres → misplaced_by decls n body ≡ misplaced_with decls n system wheres
-by_body decls n None system wheres h k = absurd (cc)
-by_body decls n (Some body) system wheres h k =
-    let e : system_of binding_of body.expression ≡ system = cc in
-    let d : body.wheres ≡ wheres = cc in
-    ap (λ y. misplaced_with decls n y body.wheres) e ∙ ap (misplaced_with decls n system) d
-
 -- == The body of `start` ==
 
-abbrev bodied : Option Start → Option (Body Bound)
-bodied None = None
-bodied (Some start) = body_of start.clauses
-
-start_bodied : (n : ℕ) (ds : List (Declaration Bound)) → start_of ds ≡ bodied (start_from n ds)
-start_bodied n [] = refl
-start_bodied n (function_declaration a x clauses ∷ ds) =
-    elim (is_among x (codes "start" ∷ [])) as (λ b. (if b then body_of clauses else start_of ds)
-    ≡ bodied (if b then Some (record { number = n; place = a.span.first; clauses = clauses }) else start_from (suc n) ds)) [
-      | true ↦ refl
-      | false ↦ start_bodied (suc n) ds
-    ]
-start_bodied n (import_declaration a m ∷ ds) = start_bodied (suc n) ds
-start_bodied n (data_declaration a x params constructors ∷ ds) = start_bodied (suc n) ds
-start_bodied n (fixity_declaration a side strength names ∷ ds) = start_bodied (suc n) ds
-start_bodied n (signature_declaration a names type ∷ ds) = start_bodied (suc n) ds
-
-no_body : {P : Type 0} (body : Option (Body Bound)) (wheres : LocalBindings Bound) → right_side_of body ≡ None → wheres_in body ≡ Some wheres → P
-no_body None wheres h k = absurd (cc)
-no_body (Some body) wheres h k = absurd (cc)
-
-module _ (ds given : List (Decl Bound)) (start : Start) (wheres : LocalBindings Bound) (same : given ≡ ds) (is : start_from 0 (plain given) ≡ Some start)
-    (bound : wheres_in (body_of start.clauses) ≡ Some wheres) where
+module _ (ds given : List (Decl Bound)) (start : Start) (body : Body Bound) (same : given ≡ ds) (is : start_from 0 (plain given) ≡ Some start)
+    (bound : body_of start.clauses ≡ Some body) where
   found : start_from 0 (plain ds) ≡ Some start
   found = ap (λ z. start_from 0 (plain z)) (sym same) ∙ is
 
-  body_is : start_of (plain ds) ≡ body_of start.clauses
-  body_is = start_bodied 0 (plain ds) ∙ ap bodied found
-
-  -- where there is a body it has a system
-  pub system_there : {P : Type 0} → right_side_of (start_of (plain ds)) ≡ None → P
-  system_there h = no_body (body_of start.clauses) wheres (ap right_side_of (sym body_is) ∙ h) bound
-
-  pub in_whole : (system : SourceSystem) → map_some (system_of binding_of) (right_side_of (start_of (plain ds))) ≡ Some system
-      → misplaced_with (plain given) start.number system wheres ≡ misplaced_from (plain ds) (start_from 0 (plain ds))
+  pub in_whole : (system : SourceSystem) → system ≡ system_of binding_of body.expression
+      → misplaced_with (plain given) start.number system body.wheres ≡ misplaced_from (plain ds) (start_from 0 (plain ds))
   in_whole system h =
-      ap (λ z. misplaced_with (plain z) start.number system wheres) same
-      ∙ sym (by_body (plain ds) start.number (body_of start.clauses) system wheres (ap (λ b. map_some (system_of binding_of) (right_side_of b)) (sym body_is) ∙ h) bound)
+      ap (λ z. misplaced_with (plain z) start.number system body.wheres) same
+      ∙ ap (λ z. misplaced_with (plain ds) start.number z body.wheres) h
+      ∙ ap (misplaced_by (plain ds) start.number) (sym bound)
       ∙ ap (misplaced_from (plain ds)) (sym found)

@@ -15,7 +15,7 @@ ghost use Rattle.rw_start.specs.Judged.{IsStarted};
 
 use crate::device::is_device;
 use crate::names::{in_decls, in_group};
-use crate::start::{start_of, type_of_start, wheres_of};
+use crate::start::{body_of, start_of, type_of_start};
 use crate::system::{add_beginnings, barred, in_parts};
 use rw_base::{Fail, OutOfMemory, Place, Refusal, Rule};
 use rw_scope_rules::{Bound, earliest};
@@ -54,7 +54,7 @@ fn judge_start(alloc: Global, program: &Program<Bound>) -> Result<(), Fail>
     let place = match start_of(decls) {
         None => Place::START,
         Some(start) => {
-            if wheres_of(start.clauses).is_some() && has_device_type(alloc, decls)? {
+            if body_of(start.clauses).is_some() && has_device_type(alloc, decls)? {
                 return Ok(());
             }
             start.place
@@ -81,7 +81,7 @@ fn misplaced_in_system(
     alloc: Global,
     decls: &[Decl<Bound>],
     number: usize,
-    parts: &Parts<'_>,
+    parts: &Parts<'_, Bound>,
     wheres: &[Local<Bound>],
 ) -> Result<Vec<Place>, OutOfMemory>
     requires { number < length decls.now }
@@ -116,13 +116,11 @@ fn misplaced(alloc: Global, program: &Program<Bound>) -> Result<Vec<Place>, OutO
     let Some(start) = start_of(decls) else {
         return misplaced_anywhere(alloc, decls);
     };
-    let Some(wheres) = wheres_of(start.clauses) else {
+    let Some(body) = body_of(start.clauses) else {
         return misplaced_anywhere(alloc, decls);
     };
-    match split(alloc, program)? {
-        None => misplaced_anywhere(alloc, decls),
-        Some(parts) => misplaced_in_system(alloc, decls, start.number, &parts, wheres),
-    }
+    let parts = split(alloc, body.expression)?;
+    misplaced_in_system(alloc, decls, start.number, &parts, body.wheres)
 }
 
 /// Judges the rules on `start` and on systems, E15 and E16, in a program whose names are bound and that begins with the

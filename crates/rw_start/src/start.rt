@@ -2,16 +2,16 @@
 ghost use Rattle.std.specs.Prelude.{◌≡◌, ◌<◌, ◌∷◌, [], Some, None, MatchOption, map, codes, length};
 ghost use Rattle.rw_tree.specs.Views.{itself};
 ghost use Rattle.rw_tree.specs.Types.{written};
-ghost use Rattle.rw_tree.specs.Trees.{alternative_of, binding_parts, local_binding};
+ghost use Rattle.rw_tree.specs.Trees.{alternative_of};
 ghost use Rattle.rw_tree.specs.Declarations.{declaration};
 ghost use Rattle.rw_scope_rules.specs.Names.{is_among};
-ghost use Rattle.rw_meaning.specs.Systems.{body_of};
+ghost use Rattle.rw_meaning.specs.Systems.{body_of as body_in};
 ghost use Rattle.rw_start.specs.Start.{start_from, type_of_start as declared_type};
-ghost use Rattle.rw_start.specs.Seen.{plain_start, wheres_in};
+ghost use Rattle.rw_start.specs.Seen.{plain_start, plain_body};
 
 use rw_base::{Name, Place};
 use rw_scope_rules::Bound;
-use rw_tree::{Alt, Decl, Local, Rhs, Written};
+use rw_tree::{Alt, Decl, Expr, Local, Rhs, Written};
 
 // What declares `start`: the number of its declaration, the place of its first clause, and its clauses.
 #[derive(Drop)]
@@ -19,6 +19,13 @@ pub struct Start<'a> {
     pub number: usize,
     pub place: Place,
     pub clauses: &'a [Alt<Bound>],
+}
+
+// The body of `start`: the right side of its one clause, and what is bound after its `where`.
+#[derive(Drop)]
+pub struct Body<'a> {
+    pub expression: &'a Expr<Bound>,
+    pub wheres: &'a [Local<Bound>],
 }
 
 // The first declaration of `start`.
@@ -66,25 +73,28 @@ pub fn type_of_start<'a>(decls: &'a [Decl<Bound>]) -> Option<&'a Written>
     None
 }
 
-// What is bound after the `where` of a clause that has neither patterns nor guards.
-fn wheres_of_one<'a>(clause: &'a Alt<Bound>) -> Option<&'a [Local<Bound>]>
-    ensures { MatchOption result (wheres_in (body_of (alternative_of itself clause.now ∷ [])) ≡ None) (λ wheres. wheres_in (body_of (alternative_of itself clause.now ∷ [])) ≡ Some (binding_parts (map (local_binding itself) wheres.now))) }
+// The body of a clause that has neither patterns nor guards.
+fn body_of_one<'a>(clause: &'a Alt<Bound>) -> Option<Body<'a>>
+    ensures { MatchOption result (body_in (alternative_of itself clause.now ∷ []) ≡ None) (λ body. body_in (alternative_of itself clause.now ∷ []) ≡ Some (plain_body body)) }
 {
     if clause.pats.len() != 0 {
         return None;
     }
     match &clause.rhs {
-        Rhs::Plain(_) => Some(clause.wheres.as_slice()),
+        Rhs::Plain(expression) => Some(Body {
+            expression,
+            wheres: clause.wheres.as_slice(),
+        }),
         Rhs::Guarded(_) => None,
     }
 }
 
-// That of the one clause of a body, if these clauses are one.
-pub fn wheres_of<'a>(clauses: &'a [Alt<Bound>]) -> Option<&'a [Local<Bound>]>
-    ensures { MatchOption result (wheres_in (body_of (map (alternative_of itself) clauses.now)) ≡ None) (λ wheres. wheres_in (body_of (map (alternative_of itself) clauses.now)) ≡ Some (binding_parts (map (local_binding itself) wheres.now))) }
+// That of the one clause, if these clauses are one.
+pub fn body_of<'a>(clauses: &'a [Alt<Bound>]) -> Option<Body<'a>>
+    ensures { MatchOption result (body_in (map (alternative_of itself) clauses.now) ≡ None) (λ body. body_in (map (alternative_of itself) clauses.now) ≡ Some (plain_body body)) }
 {
     match clauses {
-        [clause] => wheres_of_one(clause),
+        [clause] => body_of_one(clause),
         _ => None,
     }
 }

@@ -23,7 +23,7 @@ fn number_of(at: usize) -> Result<u32, OutOfMemory>
 }
 
 // The number of the declaration of `start`, if nothing may name it.
-pub fn barred(number: usize, parts: &Parts<'_>) -> Result<Option<u32>, OutOfMemory>
+pub fn barred(number: usize, parts: &Parts<'_, Bound>) -> Result<Option<u32>, OutOfMemory>
     ensures { IfOk result (λ barred. barred ≡ barred_by number (shown parts.now)) }
 {
     match parts {
@@ -36,7 +36,7 @@ pub fn barred(number: usize, parts: &Parts<'_>) -> Result<Option<u32>, OutOfMemo
 // Adds the places of the names in a system that are out of place.
 pub fn in_parts(
     start: Option<u32>,
-    parts: &Parts<'_>,
+    parts: &Parts<'_, Bound>,
     places: &mut Vec<Place>,
 ) -> Result<(), OutOfMemory>
     ensures { OnOk result (places.new.items ≡ places.old.items ++ strays start (inner_nodes (shown parts.now))) }
@@ -76,7 +76,7 @@ fn beginning(tree: &Expr<Bound>) -> Place
 }
 
 // Adds where each device of a system begins.
-pub fn add_beginnings(parts: &Parts<'_>, places: &mut Vec<Place>) -> Result<(), OutOfMemory>
+pub fn add_beginnings(parts: &Parts<'_, Bound>, places: &mut Vec<Place>) -> Result<(), OutOfMemory>
     ensures { OnOk result (places.new.items ≡ places.old.items ++ map beginning_of (leaves (shown parts.now))) }
 {
     match parts {

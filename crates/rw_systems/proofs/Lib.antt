@@ -1,3 +1,2 @@
--- Lemmas about heads, arguments and bodies.
+-- Lemmas about heads and arguments.
 mod Heads
-mod Bodies

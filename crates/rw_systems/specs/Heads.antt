@@ -3,7 +3,6 @@ use Rattle.std.specs.Prelude.{Bool, true, false, Option, Some}
 use Rattle.rw_scope_rules.specs.declared.binding.Operation.TheVariants.{Par, Refold}
 use Rattle.rw_scope_rules.specs.declared.binding.Binding.{Binding}
 use Rattle.rw_scope_rules.specs.declared.binding.Binding.TheVariants.{Operation as Operates}
-use Rattle.rw_scope_rules.specs.declared.binding.Bound.{Bound}
 use Rattle.rw_tree.specs.Trees.{Expression, variable, application}
 
 abbrev pub joins : Option Binding → Bool
@@ -12,7 +11,7 @@ joins (Some (Operates Refold)) = true
 joins _ = false
 
 -- its head, when all arguments are taken off, is one of the two
-abbrev pub heads_system : Expression Bound → Bool
-heads_system (application a head parts) = heads_system head
-heads_system (variable a x) = joins a.bound
-heads_system _ = false
+abbrev pub heads_system : {A : Type 0} → (A → Option Binding) → Expression A → Bool
+heads_system binding (application a head parts) = heads_system binding head
+heads_system binding (variable a x) = joins (binding a)
+heads_system binding _ = false

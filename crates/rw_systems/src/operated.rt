@@ -8,17 +8,17 @@ ghost use Rattle.rw_systems.specs.Shown.{shown, seen, argument};
 
 use crate::parts::{Argument, Parts};
 use rw_base::OutOfMemory;
-use rw_scope_rules::{Binding, Bound, Operation};
+use rw_scope_rules::{Binding, Operation};
 use rw_tree::Expr;
 use sqlite_items::{Boxed, Items};
 use std::alloc::Global;
 
 // Two devices side by side.
-fn paired<'a>(
+fn paired<'a, A>(
     alloc: Global,
-    whole: &'a Expr<Bound>,
-    mut arguments: Items<Argument<'a>>,
-) -> Result<Parts<'a>, OutOfMemory>
+    whole: &'a Expr<A>,
+    mut arguments: Items<Argument<'a, A>>,
+) -> Result<Parts<'a, A>, OutOfMemory>
     ensures { IfOk result (λ parts. shown parts ≡ operated_of (seen whole.now) (Some (Operates Par)) (map argument arguments.entry)) }
 {
     if arguments.len() != 2 {
@@ -31,11 +31,11 @@ fn paired<'a>(
 }
 
 // A device that is fed back.
-fn fed_back<'a>(
+fn fed_back<'a, A>(
     alloc: Global,
-    whole: &'a Expr<Bound>,
-    mut arguments: Items<Argument<'a>>,
-) -> Result<Parts<'a>, OutOfMemory>
+    whole: &'a Expr<A>,
+    mut arguments: Items<Argument<'a, A>>,
+) -> Result<Parts<'a, A>, OutOfMemory>
     ensures { IfOk result (λ parts. shown parts ≡ operated_of (seen whole.now) (Some (Operates Refold)) (map argument arguments.entry)) }
 {
     if arguments.len() != 3 {
@@ -48,12 +48,12 @@ fn fed_back<'a>(
 }
 
 /// What a name with this binding makes of its arguments; `whole` is the application.
-pub fn operated<'a>(
+pub fn operated<'a, A>(
     alloc: Global,
-    whole: &'a Expr<Bound>,
+    whole: &'a Expr<A>,
     bound: Option<Binding>,
-    arguments: Items<Argument<'a>>,
-) -> Result<Parts<'a>, OutOfMemory>
+    arguments: Items<Argument<'a, A>>,
+) -> Result<Parts<'a, A>, OutOfMemory>
     ensures { IfOk result (λ parts. shown parts ≡ operated_of (seen whole.now) bound (map argument arguments.entry)) }
 {
     match bound {
