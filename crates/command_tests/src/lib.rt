@@ -6,3 +6,5 @@
 
 #[cfg(test)]
 mod limits;
+#[cfg(test)]
+mod worked;
