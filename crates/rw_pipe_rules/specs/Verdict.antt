@@ -1,6 +1,7 @@
 -- The verdict on a source by all rules, E01 to E25: the program that it is, with its types, instances and flat program, or the first rule that it breaks
 -- and where. Each rule is read where those before it are kept.
-use Rattle.std.specs.Prelude.{◌≡◌, ◌⊎◌, ℕ, List, [], ◌∷◌, map, slice_get, Option, Some, None, Ok, Err}
+use Rattle.std.specs.Prelude.{◌≡◌, ◌⊎◌, ◌≤◌, ℕ, List, [], ◌∷◌, map, slice_get, Option, Some, None, Ok, Err}
+use Rattle.std.specs.List.{sum_by}
 use Rattle.rw_base.specs.declared.place.Place.{Place}
 use Rattle.rw_base.specs.declared.place.Span.{Span}
 use Rattle.rw_base.specs.declared.rule.Rule.TheVariants.{E17, E18}
@@ -15,12 +16,13 @@ use Rattle.rw_types_rules.specs.Schemes.{World, world_of}
 use Rattle.rw_types_rules.specs.TypedTrees.{TypedNode}
 use Rattle.rw_types.specs.Inferred.{AreDefault}
 use Rattle.rw_core_flat.specs.Programs.{FlatProgram, device}
+use Rattle.rw_guard_rules.specs.Rules.{nodes}
 use Rattle.rw_guard_rules.specs.Verdict.{GuardsAs}
 use Rattle.specialise_rules.specs.Instances.{Instance, declared_in}
 use Rattle.specialise_rules.specs.Tables.{IsTableOf, fields_of, number_in}
 use Rattle.specialise_rules.specs.Limits.{AreInstances, IsFirstTooMuch}
 use Rattle.inline_ho_rules.specs.TypedPrograms.{IsFlatOf, kind_of, declared_place, first_declared, start_body}
-use Rattle.inline_ho_rules.specs.OrderRules.{KeepsOrders, BreaksOrders, BreaksExpansion}
+use Rattle.inline_ho_rules.specs.OrderRules.{KeepsOrders, BreaksOrders, BreaksExpansion, most_flat_nodes}
 use Rattle.rw_front.specs.Stages.{Stage, ◌then◌}
 use Rattle.rw_front.specs.Verdict.{Verdict, reported}
 
@@ -82,11 +84,13 @@ module _ (given : InstancedProgram) where
   abbrev pub world : World
   world = world_in given.program
 
-  -- it is the flat program of these instances: its functions, its system, its table in numbers, and the types of what `start` is given and shows
+  -- it is the flat program of these instances: its functions, which aren't too large together, its system, its table in numbers, and the types of what
+  -- `start` is given and shows
   pub record IsFlat (flat : FlatProgram) : Type 0 where
     pub table : List Ty
     pub flattened : IsFlatOf world given.typed given.instances table flat.functions flat.system
     pub types : numbered_table world table ≡ Some flat.types
+    pub small : sum_by (λ f. nodes f.body) flat.functions ≤ most_flat_nodes
     pub start : Declaration TypedNode
     pub first : first_declared given.typed given.instances ≡ Some start
     pub type : Ty
