@@ -1,0 +1,4 @@
+-- The law, from terms to systems.
+mod By
+mod Terms
+mod Programs

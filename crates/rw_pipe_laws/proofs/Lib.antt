@@ -1,0 +1,3 @@
+-- The stages one by one.
+mod Instances
+mod Flattened
