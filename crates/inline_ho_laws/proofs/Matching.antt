@@ -74,9 +74,9 @@ module _ (program : List (Declaration Bound)) where
   abbrev counted_match : FlatPatterns → Vals → Tried (List Val)
   counted_match pats fields = if are_as_many pats fields then parts_matched pats fields else stuck
 
-  counted : {P : Type 0} {Q : List Val → Type 0} (b : Bool) (x : Tried (List Val)) → Whichever x P Q → Whichever (if b then x else stuck) P Q
-  counted true x h = h
-  counted false x h = tt
+  counted : (P : Type 0) (Q : List Val → Type 0) (b : Bool) (x : Tried (List Val)) → Whichever x P Q → Whichever (if b then x else stuck) P Q
+  counted P Q true x h = h
+  counted P Q false x h = tt
 
   -- the cases of a tag, by the test that both sides make
   built_by : (a : Bound) (c : List ℕ) (parts : Patterns Bound) (pats : FlatPatterns) (n declared place : ℕ) → a.bound ≡ Some (Constructs declared place) → (t : Thunk) (tag : ℕ) (fields : Vals) (ts : Thunks)
@@ -113,8 +113,8 @@ module _ (program : List (Declaration Bound)) where
     pub pattern_is_matched : {p : Pattern Bound} {q : FlatPattern} {n : ℕ} → IsPattern binding_of p q n → (t : Thunk) (v : Val) → Stands program t v → Whichever (matched q v) (Passes (matching p t)) (Takes n (matching p t))
     pattern_is_matched is_any t v h = record { them = nothing; had = always (λ b. refl); stand = tt; many = refl }
     pattern_is_matched is_variable t v h = record { them = and_then t nothing; had = always (λ b. refl); stand = (h, tt); many = refl }
-    pattern_is_matched (is_built {a = a} {c = c} {parts = parts} {pats = pats} {n = n} {declared = declared} {place = place} e ps) t (val tag fields) h = built_by a c parts pats n declared place e t tag fields h.0 h.1 (counted (are_as_many pats fields) _ (parts_are_matched ps h.0 fields h.2)) (nat_eq tag place) refl
-    pattern_is_matched (is_tuple {a = a} {parts = parts} {pats = pats} {n = n} ps) t (val tag fields) h = tuple_by a parts pats n t tag fields h.0 h.1 (counted (are_as_many pats fields) _ (parts_are_matched ps h.0 fields h.2))
+    pattern_is_matched (is_built {a = a} {c = c} {parts = parts} {pats = pats} {n = n} {declared = declared} {place = place} e ps) t (val tag fields) h = built_by a c parts pats n declared place e t tag fields h.0 h.1 (counted _ _ (are_as_many pats fields) _ (parts_are_matched ps h.0 fields h.2)) (nat_eq tag place) refl
+    pattern_is_matched (is_tuple {a = a} {parts = parts} {pats = pats} {n = n} ps) t (val tag fields) h = tuple_by a parts pats n t tag fields h.0 h.1 (counted _ _ (are_as_many pats fields) _ (parts_are_matched ps h.0 fields h.2))
 
     pub parts_are_matched : {ps : Patterns Bound} {qs : FlatPatterns} {n : ℕ} → ArePatterns binding_of ps qs n → (ts : Thunks) (fields : Vals) → FieldsStand program ts fields
         → Whichever (parts_matched qs fields) (Passes (matching_parts ps ts)) (Takes n (matching_parts ps ts))
@@ -209,4 +209,4 @@ module _ (program : List (Declaration Bound)) where
 
   pub row_is_matched : {d e : ℕ} {cols : Columns Bound} {ps : List (Pattern Bound)} {qs : FlatPatterns} {ms : Meants Bound} → AreColumns binding_of d cols ps qs ms e → (env : List Val) (ts : Thunks) (vs : List Val) → length env ≡ d
       → ColumnsMeant env cols ts vs → Whichever (row_matched qs vs) (Passes (matching_row ps ts)) (RowTakes env e ms (matching_row ps ts))
-  row_is_matched {qs = qs} p env ts vs l h = counted (are_as_many qs (vals vs)) _ (row_parts_matched p env ts vs l h)
+  row_is_matched {qs = qs} p env ts vs l h = counted _ _ (are_as_many qs (vals vs)) _ (row_parts_matched p env ts vs l h)

@@ -67,9 +67,9 @@ module _ (n : ℕ) (rows : Rows) (within : AreWithin (n + 1) rows) (reached : Is
   by_count : (count : ℕ) → column_count n rows ≡ count → Tags count → Decided rows
   by_count zero e h =
       let d = smaller (shorter_rows n (reverse rows)) (shorter_less n rows within reached (shorter_rows n (reverse rows)) refl) in
-      (d.0, answer_missing n rows within reached d.0 (shorter_rows n (reverse rows)) refl d.1 (λ tag l. absurd (omega arith)) (inl e))
+      (d.0, answer_missing n rows within reached d.0 (shorter_rows n (reverse rows)) refl d.1 (inl e))
   by_count (suc k) e (inl over) = (false, over)
-  by_count (suc k) e (inr h) = (true, answer_all n rows within reached (omega arith) (λ tag l. inr (h tag (omega arith))))
+  by_count (suc k) e (inr h) = (true, answer_all n rows within reached (omega arith) (λ tag l. h tag (omega arith)))
 
   column_decided : Decided rows
   column_decided = by_count (column_count n rows) refl (tags (column_count n rows) (omega arith))

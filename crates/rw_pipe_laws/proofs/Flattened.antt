@@ -1,6 +1,7 @@
 -- One flat program of instances, or one first that breaks E18; and one verdict on it.
 use Rattle.std.proofs.Common.{◌≡◌, ◌∙◌, refl, sym, ap, subst, arith, ℕ, zero, suc, ◌+◌, ◌<◌, ◌≤◌, List, [], ◌∷◌, ◌++◌, take, slice_get, Option, Some, None, Result, Ok, Err, inl, inr, ◌⊎◌, ⊎_elim}
 use Rattle.std.specs.List.{flat_map, sum_by}
+use Rattle.std.proofs.lemmas.List.Sums.{sum_by-cons}
 use Rattle.rw_base.specs.declared.place.Place.{Place}
 use Rattle.rw_base.specs.declared.place.Span.{Span}
 use Rattle.rw_base.specs.declared.rule.Rule.TheVariants.{E18}
@@ -23,7 +24,8 @@ use Rattle.inline_ho_rules.specs.TypedPrograms.{IsFlatOf, kind_of, declared_plac
 use Rattle.inline_ho_rules.specs.OrderRules.{KeepsOrders, BreaksOrders, BreaksExpansion, ExpandsWithin, most_flat_nodes}
 use Rattle.rw_front.specs.Stages.{IsExactAt}
 use Rattle.rw_front.specs.Verdict.{reported}
-use Rattle.rw_pipe_rules.specs.Verdict.{InstancedProgram, world_in, place_of_instance, JudgedProgram, numbered_table, IsFlat, AllKeepOrders, Expands, BreaksFlattening, Flattens, IsGuardedAs}
+use Rattle.rw_pipe_laws.proofs.Instances.{in_order}
+use Rattle.rw_pipe_rules.specs.Verdict.{InstancedProgram, world_in, place_of_instance, JudgedProgram, numbered_table, type_of_declared, IsFlat, AllKeepOrders, Expands, BreaksFlattening, Flattens, IsGuardedAs}
 
 same_held : {A : Type 0} (x : Option A) (a b : A) → x ≡ Some a → x ≡ Some b → a ≡ b
 same_held x a b e h = cc
@@ -31,9 +33,6 @@ same_held x a b e h = cc
 -- of two first ones
 abbrev FirstOf : (ℕ → Instance → Type 0) → Type 0
 FirstOf P = (n m : ℕ) (i j : Instance) → P n i → P m j → i ≡ j
-
-in_order : (n m : ℕ) → (n < m) ⊎ ((m < n) ⊎ (n ≡ m))
-in_order n m = omega arith
 
 -- == Flat functions of the instances up to one ==
 
@@ -46,6 +45,8 @@ module _ (world : World) (typed : List (Declaration TypedNode)) (instances : Lis
   first_part (o ∷ os) more (f ∷ fs) h =
       let rest = first_part os more fs h.1 in
       let l = rest.2 in
+      let a : sum_by (λ (f : FlatFunction). nodes f.body) (f ∷ rest.0) ≡ nodes f.body + sum_by (λ (f : FlatFunction). nodes f.body) rest.0 = sum_by-cons (λ (f : FlatFunction). nodes f.body) f rest.0 in
+      let b : sum_by (λ (f : FlatFunction). nodes f.body) (f ∷ fs) ≡ nodes f.body + sum_by (λ (f : FlatFunction). nodes f.body) fs = sum_by-cons (λ (f : FlatFunction). nodes f.body) f fs in
       (f ∷ rest.0, (h.0, rest.1), omega arith)
 
   -- those of more instances are behind those of some
@@ -54,10 +55,7 @@ module _ (world : World) (typed : List (Declaration TypedNode)) (instances : Lis
   others_more [] n = ([], refl)
   others_more (i ∷ is) n = part_of is n
     where
-      one : Instance → List Origin
-      one j = whole_if_low j (type_if (declared_in typed j))
-
-      joined : (xs ys zs : List Origin) → (xs ++ ys) ++ zs ≡ xs ++ ys ++ zs
+      joined : (xs ys zs : List Origin) → (xs ++ ys) ++ zs ≡ xs ++ (ys ++ zs)
       joined [] ys zs = refl
       joined (x ∷ xs) ys zs = ap (λ z. x ∷ z) (joined xs ys zs)
 
@@ -69,12 +67,12 @@ module _ (world : World) (typed : List (Declaration TypedNode)) (instances : Lis
           let rest = part_of js n in
           (rest.0, ap (λ z. whole_if_low j (type_if (declared_in typed j)) ++ z) rest.1 ∙ sym (joined (whole_if_low j (type_if (declared_in typed j))) (flat_map (λ j. whole_if_low j (type_if (declared_in typed j))) (take n js)) rest.0))
 
-  again : (xs ys zs : List Origin) → (xs ++ ys) ++ zs ≡ xs ++ ys ++ zs
+  again : (xs ys zs : List Origin) → (xs ++ ys) ++ zs ≡ xs ++ (ys ++ zs)
   again [] ys zs = refl
   again (x ∷ xs) ys zs = ap (λ z. x ∷ z) (again xs ys zs)
 
   -- where all functions aren't too large together, those up to any instance aren't
-  pub expands : (fs : List FlatFunction) → AreOf world typed instances table start place (origins world typed instances table start place instances) fs → sum_by (λ (f : FlatFunction). nodes f.body) fs ≤ most_flat_nodes
+  pub expands : (fs : List FlatFunction) → AreOf world typed instances table start place (origins world typed instances table start place) fs → sum_by (λ (f : FlatFunction). nodes f.body) fs ≤ most_flat_nodes
       → (n : ℕ) → ExpandsWithin world typed instances table start place n
   expands fs h small n =
       let more = others_more instances n in

@@ -17,6 +17,17 @@ use Rattle.rw_front.specs.Stages.{IsExactAt}
 use Rattle.rw_front.specs.Verdict.{reported}
 use Rattle.rw_pipe_rules.specs.Verdict.{TypedProgram, HasTypes, world_in, InstancedProgram, HasInstances, place_of_instance}
 
+pub in_order : (n m : ℕ) → (n < m) ⊎ ((m < n) ⊎ (n ≡ m))
+in_order zero zero = inr (inr refl)
+in_order zero (suc m) = inl (omega arith)
+in_order (suc n) zero = inr (inl (omega arith))
+in_order (suc n) (suc m) = higher n m (in_order n m)
+  where
+    higher : (n m : ℕ) → (n < m) ⊎ ((m < n) ⊎ (n ≡ m)) → (suc n < suc m) ⊎ ((suc m < suc n) ⊎ (suc n ≡ suc m))
+    higher n m (inl h) = inl (omega arith)
+    higher n m (inr (inl h)) = inr (inl (omega arith))
+    higher n m (inr (inr h)) = inr (inr (ap suc h))
+
 -- == Types ==
 
 abbrev pub OneDefault : Type 0
@@ -56,8 +67,13 @@ module _ (world : World) (typed : List (Declaration TypedNode)) where
   listed_in : (list : List Instance) (n : ℕ) (i : Instance) → AreInstances world typed list → slice_get (first_instances typed (suc n)) n ≡ Some i → slice_get list n ≡ Some i
   listed_in list n i a e = ⊎_elim (λ (l : suc n ≤ most_instances). within l) (λ (l : most_instances ≤ suc n). behind l) either
     where
+      by_order : (n < most_instances) ⊎ ((most_instances < n) ⊎ (n ≡ most_instances)) → (suc n ≤ most_instances) ⊎ (most_instances ≤ suc n)
+      by_order (inl h) = inl (omega arith)
+      by_order (inr (inl h)) = inr (omega arith)
+      by_order (inr (inr h)) = inr (omega arith)
+
       either : (suc n ≤ most_instances) ⊎ (most_instances ≤ suc n)
-      either = omega arith
+      either = by_order (in_order n most_instances)
 
       within : suc n ≤ most_instances → slice_get list n ≡ Some i
       within l =
@@ -80,7 +96,7 @@ module _ (world : World) (typed : List (Declaration TypedNode)) where
   first_once n m i j h k = ⊎_elim (λ (l : n < m). absurd (k.first n i l h.listed h.much)) (λ other. ⊎_elim (λ (l : m < n). absurd (h.first m j l k.listed k.much)) (λ (e : n ≡ m). alike e) other) either
     where
       either : (n < m) ⊎ ((m < n) ⊎ (n ≡ m))
-      either = omega arith
+      either = in_order n m
 
       alike : n ≡ m → i ≡ j
       alike e = same_held (slice_get (first_instances typed (suc m)) m) i j (subst (λ z. slice_get (first_instances typed (suc z)) z ≡ Some i) e h.listed) k.listed
