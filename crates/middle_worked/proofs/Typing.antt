@@ -31,12 +31,19 @@ is_table = record { some = some; few = few; earlier = earlier }
     earlier (suc (suc ty)) tag = no_fields (suc (suc ty))
 
 functions_typed : AreTypedBehind types [] selected.functions
-functions_typed =
-    (switch_typed 0 (local_typed refl) (more_branches_typed (omega arith) (result_typed (con_typed [] refl no_selects_typed)) (other_branch_typed (result_typed (con_typed [] refl no_selects_typed)))),
-    (switch_typed 0 (local_typed refl) (more_branches_typed (omega arith) (result_typed (local_typed refl)) (other_branch_typed (result_typed (call_typed (signature_of flip_tree) refl (more_selects_typed (local_typed refl) no_selects_typed))))),
-    (result_typed (con_typed [] refl no_selects_typed),
-    (result_typed (call_typed (signature_of flip_tree) refl (more_selects_typed (local_typed refl) no_selects_typed)),
-    (result_typed (local_typed refl), tt)))))
+functions_typed = (
+  switch_typed 0 (local_typed refl) (more_branches_typed (omega arith) (result_typed (con_typed [] refl no_selects_typed)) (other_branch_typed (result_typed (con_typed [] refl no_selects_typed)))),
+  (
+    switch_typed 0 (local_typed refl) (more_branches_typed (omega arith) (result_typed (local_typed refl)) (other_branch_typed (result_typed (call_typed (signature_of flip_tree) refl (more_selects_typed (local_typed refl) no_selects_typed))))),
+    (
+      result_typed (con_typed [] refl no_selects_typed),
+      (
+        result_typed (call_typed (signature_of flip_tree) refl (more_selects_typed (local_typed refl) no_selects_typed)),
+        (result_typed (local_typed refl), tt),
+      ),
+    ),
+  ),
+)
 
 signatures : List Signature
 signatures = map signature_of selected.functions

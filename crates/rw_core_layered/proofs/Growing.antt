@@ -1,19 +1,19 @@
 -- A greater budget never changes a trace of a device or what a layered program gives.
-use Rattle.std.proofs.Common.{◌≡◌, ℕ, zero, suc, ◌+◌, nat_eq, List, [], ◌∷◌, ◌++◌, length, Option, Some, None, refl, arith}
+use Rattle.std.proofs.Common.{◌≡◌, ℕ, zero, suc, ◌+◌, nat_eq, List, [], ◌∷◌, ◌++◌, length, refl, arith}
 use Rattle.rw_core.specs.Values.{Val}
-use Rattle.rw_core.specs.Options.{◌>>=◌, Grows}
+use Rattle.rw_core.specs.Options.{Grows}
 use Rattle.rw_core.specs.Traces.{shown}
 use Rattle.rw_core.specs.Systems.{System, system_outputs}
 use Rattle.rw_core.proofs.Options.{grows_same, grows_on}
 use Rattle.rw_core.proofs.Systems.{system_follows, alike_same}
-use Rattle.rw_meaning.specs.Options.{Tried, stuck, tried, what_is_taken}
+use Rattle.rw_meaning.specs.Options.{stuck, tried}
 use Rattle.rw_meaning.proofs.Grows.{Keeps, keeps_same, keeps_on, keeps_or, keeps_tried, grows_taken}
 use Rattle.rw_core_flat.specs.Meaning.{if_holds, row_matched}
 use Rattle.rw_core_flat.proofs.Growing.{unchanged, followed, and_on_grows, holds_grows, if_grows}
 use Rattle.rw_core_layered.specs.Pures.{Calling, value, values, bound}
 use Rattle.rw_core_layered.specs.Calls.{calls_of}
 use Rattle.rw_core_layered.specs.Devices.{DeviceTerm, device_return, device_signal, device_bind, device_case, device_let, device_call, DeviceRows, no_device_rows, more_device_rows, DeviceArms, device_body, no_device_arms, more_device_arms}
-use Rattle.rw_core_layered.specs.Devices.{Device, DeviceTrace, Tracing, traced, rows_traced, arms_traced, device_at, trace_within}
+use Rattle.rw_core_layered.specs.Devices.{Device, Tracing, traced, rows_traced, arms_traced, device_at, trace_within}
 use Rattle.rw_core_layered.specs.Layered.{LayeredProgram, read_devices, layered_within}
 
 module _ (pures : Calling) (calls later : Tracing) (h : (i : ℕ) (vs inputs : List Val) → Grows (calls i vs inputs) (later i vs inputs)) where

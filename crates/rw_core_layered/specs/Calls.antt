@@ -1,6 +1,6 @@
 -- Functions in call order: each calls earlier ones alone, so what calls give is a recursion on the list of functions, without a budget. B stands for
 -- bodies, which differ from language to language.
-use Rattle.std.specs.Prelude.{ℕ, zero, suc, nat_eq, List, [], ◌∷◌, length, Option, Some, None, if◌then◌else◌}
+use Rattle.std.specs.Prelude.{ℕ, suc, nat_eq, List, [], ◌∷◌, length, Option, None, if◌then◌else◌}
 use Rattle.rw_core.specs.Values.{Val}
 use Rattle.rw_core_layered.specs.Pures.{Calling}
 

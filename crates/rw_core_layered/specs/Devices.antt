@@ -3,7 +3,7 @@ use Rattle.std.specs.Prelude.{ℕ, zero, suc, nat_eq, List, [], ◌∷◌, ◌++
 use Rattle.rw_core.specs.Values.{Val}
 use Rattle.rw_core.specs.Options.{◌>>=◌}
 use Rattle.rw_core.specs.Traces.{Trace, silent, signalled, and_on}
-use Rattle.rw_meaning.specs.Options.{Tried, stuck, passed_over, taken, and_try, or_try, tried, what_is_taken}
+use Rattle.rw_meaning.specs.Options.{Tried, stuck, passed_over, and_try, or_try, tried, what_is_taken}
 use Rattle.rw_core_flat.specs.Terms.{FlatPatterns}
 use Rattle.rw_core_flat.specs.Meaning.{if_holds, row_matched}
 use Rattle.rw_core_layered.specs.Pures.{PureTerm, PureTerms, PureLets, Calling, value, values, bound}

@@ -1,12 +1,10 @@
 -- Layered programs as flat ones: their terms are flat terms without layers. What it is to be well typed, must-signal, guarded or in tail position is so
 -- said once, of flat terms.
-use Rattle.std.specs.Prelude.{◌≡◌, ℕ, ◌+◌, ◌<◌, List, [], ◌∷◌, ◌++◌, map, length, Option, Some}
-use Rattle.std.specs.List.{AllByRecursion}
-use Rattle.rw_core.specs.Bits.{IsTable}
+use Rattle.std.specs.Prelude.{ℕ, ◌+◌, List, [], ◌++◌, map, length}
 use Rattle.rw_core.specs.Systems.{System, leaf, side_by_side, fed_back}
 use Rattle.rw_core_flat.specs.Terms.{FlatTerm, local_term, built_term, case_term, let_term, call_term, return_term, bind_term, signal_term, FlatTerms, no_terms, more_terms}
 use Rattle.rw_core_flat.specs.Terms.{FlatLets, no_lets, more_lets, FlatRows, no_rows, more_rows, FlatArms, body_arm, no_arms, more_arms}
-use Rattle.rw_core_flat.specs.Programs.{FlatFunction, FlatProgram, pure as is_pure, device as is_device, function_at}
+use Rattle.rw_core_flat.specs.Programs.{FlatFunction, FlatProgram, pure as is_pure, device as is_device}
 use Rattle.rw_core_layered.specs.Pures.{PureTerm, pure_local, pure_con, pure_case, pure_let, pure_call, PureTerms, no_pures, more_pures, PureLets, no_pure_lets, more_pure_lets}
 use Rattle.rw_core_layered.specs.Pures.{PureRows, no_pure_rows, more_pure_rows, PureArms, pure_body, no_pure_arms, more_pure_arms}
 use Rattle.rw_core_layered.specs.Calls.{Function}

@@ -4,7 +4,7 @@ use Rattle.rw_core.specs.declared.types.DataTy.{DataTy}
 use Rattle.rw_core.specs.Values.{Val}
 use Rattle.rw_core.specs.Options.{◌>>=◌}
 use Rattle.rw_core.specs.Systems.{System, Reading, system_outputs}
-use Rattle.rw_core_layered.specs.Pures.{PureTerm, Calling, value}
+use Rattle.rw_core_layered.specs.Pures.{PureTerm, Calling}
 use Rattle.rw_core_layered.specs.Calls.{Function, calls_of}
 
 -- a device as a machine: the types of its inputs, outputs and states, and the numbers of the functions that give its first state, the state after an

@@ -1,8 +1,8 @@
 -- Pure terms, and their values: by recursion on the term, over what calls give. A variable is the number of its binder on the way to its place.
-use Rattle.std.specs.Prelude.{ℕ, List, [], ◌∷◌, ◌++◌, Option, Some, None}
+use Rattle.std.specs.Prelude.{ℕ, List, [], ◌∷◌, ◌++◌, Option, Some}
 use Rattle.rw_core.specs.Values.{Val, val, vals}
 use Rattle.rw_core.specs.Options.{◌>>=◌}
-use Rattle.rw_meaning.specs.Options.{Tried, stuck, passed_over, taken, and_try, or_try, tried, what_is_taken}
+use Rattle.rw_meaning.specs.Options.{Tried, stuck, passed_over, and_try, or_try, tried, what_is_taken}
 use Rattle.rw_core_flat.specs.Terms.{FlatPattern, FlatPatterns}
 use Rattle.rw_core_flat.specs.Meaning.{if_holds, matched, row_matched, value_at}
 

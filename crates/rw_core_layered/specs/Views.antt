@@ -1,19 +1,13 @@
 -- Layered programs and machines of the code as plain data.
-use Rattle.std.specs.Prelude.{ℕ, List, [], ◌∷◌, map}
+use Rattle.std.specs.Prelude.{List, [], ◌∷◌, map}
 use Rattle.rw_core_flat.specs.Terms.{FlatPattern, FlatPatterns}
 use Rattle.rw_core_flat.specs.Views.{pattern, patterns, system_of}
 use Rattle.rw_core_layered.specs.declared.pure.PTerm.{PTerm, fold-PTerm}
-use Rattle.rw_core_layered.specs.declared.pure.PArms.{PArms, fold-PArms}
 use Rattle.rw_core_layered.specs.declared.pure.PArms.TheOpen.{PArms-F, PTerm-F, PArm-F, PLet-F, PRow-F}
-use Rattle.rw_core_layered.specs.declared.pure.PRow.{PRow, fold-PRow}
 use Rattle.rw_core_layered.specs.declared.pure.PLet.{PLet, fold-PLet}
-use Rattle.rw_core_layered.specs.declared.pure.PArm.{PArm, fold-PArm}
 use Rattle.rw_core_layered.specs.declared.pure.PFun.{PFun}
 use Rattle.rw_core_layered.specs.declared.device.DTerm.{DTerm, fold-DTerm}
-use Rattle.rw_core_layered.specs.declared.device.DArms.{DArms, fold-DArms}
 use Rattle.rw_core_layered.specs.declared.device.DArms.TheOpen.{DArms-F, DTerm-F, DArm-F, DRow-F}
-use Rattle.rw_core_layered.specs.declared.device.DRow.{DRow, fold-DRow}
-use Rattle.rw_core_layered.specs.declared.device.DArm.{DArm, fold-DArm}
 use Rattle.rw_core_layered.specs.declared.device.DFun.{DFun}
 use Rattle.rw_core_layered.specs.declared.layered.Layered.{Layered}
 use Rattle.rw_core_layered.specs.declared.machine.Leaf.{Leaf}

@@ -1,7 +1,6 @@
 -- When layered programs and machines are well formed: well typed and guarded as flat programs, with pure functions in call order.
 use Rattle.std.specs.Prelude.{◌≡◌, ℕ, ◌<◌, nat_le, List, [], map, length, Some}
 use Rattle.std.specs.List.{AllByRecursion}
-use Rattle.rw_core.specs.declared.types.DataTy.{DataTy}
 use Rattle.rw_core.specs.Bits.{IsTable}
 use Rattle.rw_core_flat.specs.Programs.{FlatFunction, function_at}
 use Rattle.rw_core_flat.specs.WellTyped.{Sign, DataTypes, AreInTable, FunctionTyped, signs_of}

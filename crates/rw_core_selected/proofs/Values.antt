@@ -1,18 +1,16 @@
 -- What well-typed trees give is of their types.
-use Rattle.std.proofs.Common.{◌≡◌, ◌∙◌, refl, sym, subst, ap, arith, ℕ, zero, suc, ◌+◌, ◌<◌, nat_eq, Bool, true, false, if◌then◌else◌, List, [], ◌∷◌, ◌++◌, map, length, Option, Some, None, append-nil, append_assoc, length-append}
+use Rattle.std.proofs.Common.{◌≡◌, refl, sym, subst, arith, ℕ, zero, suc, ◌+◌, nat_eq, Bool, true, false, if◌then◌else◌, List, [], ◌∷◌, ◌++◌, map, length, Option, Some, None, append-nil, append_assoc, length-append}
 use Rattle.std.proofs.lemmas.Bool.Decides.{nat_tests}
-use Rattle.std.specs.Prelude.{slice_get}
 use Rattle.std.proofs.lemmas.Option.{get_or_from_slice_get, slice_get_within}
 use Rattle.rw_core.specs.declared.types.DataTy.{DataTy}
 use Rattle.rw_core.specs.Values.{Val, Vals, val, none, more, vals}
 use Rattle.rw_core.specs.Bits.{constructors_of, IsValue, AreValues}
-use Rattle.rw_core.specs.Options.{◌>>=◌}
 use Rattle.rw_core.proofs.Options.{bind_some}
 use Rattle.rw_core_flat.specs.Meaning.{value_at}
 use Rattle.rw_core_flat.specs.WellTyped.{type_at, fields_in}
 use Rattle.rw_core_layered.specs.Pures.{Calling}
 use Rattle.rw_core_layered.specs.Calls.{Function, no_calls, and_function, calls_from, calls_of}
-use Rattle.rw_core_selected.specs.Trees.{SelectTerm, select_local, select_con, select_field, select_call, SelectTerms, no_selects, more_selects, Tree, tree_switch, tree_let, tree_result, Branches, no_branches, other_branch, more_branches}
+use Rattle.rw_core_selected.specs.Trees.{SelectTerm, SelectTerms, Tree, Branches}
 use Rattle.rw_core_selected.specs.Trees.{field_at, field_in, tag_of, select_value, select_values, tree_value, branch_value}
 use Rattle.rw_core_layered.specs.Wired.{Signature, signature_of, signature_at, KeepsTypes}
 use Rattle.rw_core_selected.specs.Typed.{SelectTyped, local_typed, con_typed, field_typed, call_typed, SelectsTyped, no_selects_typed, more_selects_typed, TreeTyped, switch_typed, let_typed, result_typed}

@@ -1,12 +1,9 @@
 -- Well-typed trees of decisions, over a table of data types: each call is of an earlier function. A field has a value only where its constructor is the
 -- one that stands there, so types alone don't say that a tree has one.
-use Rattle.std.specs.Prelude.{◌≡◌, ℕ, zero, suc, ◌<◌, List, [], ◌∷◌, ◌++◌, map, length, Option, Some, None}
+use Rattle.std.specs.Prelude.{◌≡◌, ℕ, ◌<◌, List, [], ◌∷◌, ◌++◌, map, length, Some}
 use Rattle.rw_core.specs.declared.types.DataTy.{DataTy}
-use Rattle.rw_core.specs.Bits.{IsTable, constructors_of, IsValue, AreValues}
-use Rattle.rw_core.specs.Values.{Val, vals}
-use Rattle.rw_core.specs.Systems.{System, leaf, side_by_side, fed_back}
+use Rattle.rw_core.specs.Bits.{IsTable, constructors_of}
 use Rattle.rw_core_flat.specs.WellTyped.{fields_in, type_at}
-use Rattle.rw_core_layered.specs.Pures.{Calling}
 use Rattle.rw_core_layered.specs.Calls.{Function}
 use Rattle.rw_core_layered.specs.Machines.{MachineLeaf, leaf_at}
 use Rattle.rw_core_layered.specs.Wired.{Signature, signature_of, signature_at, LeafTyped, WiredTyped}

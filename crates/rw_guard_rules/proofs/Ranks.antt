@@ -1,12 +1,12 @@
 -- Ranks and cycles; must-signal as a derivation and as a set.
 use Rattle.std.specs.List.{AllByRecursion}
-use Rattle.std.proofs.Common.{◌≡◌, ℕ, zero, suc, ◌+◌, ◌≤◌, ◌<◌, List, [], ◌∷◌, ◌++◌, Option, Some, None, Bool, true, false, ◌&&◌, ◌||◌, if◌then◌else◌, ◌⊎◌, inl, inr, refl, arith, ap, sym, ◌∙◌, subst}
-use Rattle.rw_core_flat.specs.Terms.{FlatTerm, local_term, built_term, case_term, let_term, call_term, mark_term, return_term, get_term, put_term, lift_term, bind_term, signal_term, extrude_term, FlatTerms, no_terms, more_terms}
-use Rattle.rw_core_flat.specs.Terms.{FlatLets, no_lets, more_lets, FlatRows, no_rows, more_rows, FlatArms, body_arm, no_arms, more_arms}
+use Rattle.std.proofs.Common.{◌≡◌, ℕ, suc, ◌+◌, ◌≤◌, ◌<◌, List, [], ◌∷◌, Some, Bool, true, false, ◌&&◌, ◌||◌, ◌⊎◌, inl, inr, refl, arith, subst}
+use Rattle.rw_core_flat.specs.Terms.{FlatTerm, local_term, built_term, case_term, let_term, call_term, mark_term, return_term, get_term, put_term, lift_term, bind_term, signal_term, extrude_term}
+use Rattle.rw_core_flat.specs.Terms.{FlatRows, no_rows, more_rows, FlatArms, body_arm, no_arms, more_arms}
 use Rattle.rw_core_flat.specs.Programs.{FlatFunction, function_at}
 use Rattle.rw_guard_rules.specs.Signals.{Signals, signals_here, signals_left, signals_right, signals_case, signals_let, signals_mark, signals_call, signals_extrude, RowsSignal, no_row_left, each_row, ArmsSignal, the_body, no_arm_left, each_arm}
-use Rattle.rw_guard_rules.specs.Signals.{Step, right_of, inward, aside, Held, calls_in, Guarded, IsTail, CallsEnd}
-use Rattle.rw_guard_rules.specs.Rules.{AnyByRecursion, Calls, Leads, one_step, more_steps, OnAnyPath, Unguarded, UnguardedDevice, KeepsRules, signals_by, rows_signal_by, arms_signal_by, guarded_by, IsClosed, IsMustSignal}
+use Rattle.rw_guard_rules.specs.Signals.{Step, right_of, inward, aside, Held, calls_in, Guarded, CallsEnd}
+use Rattle.rw_guard_rules.specs.Rules.{AnyByRecursion, Calls, Leads, one_step, more_steps, Unguarded, signals_by, rows_signal_by, arms_signal_by, guarded_by, IsClosed, IsMustSignal}
 
 every_map : {A : Type 0} (P Q : A → Type 0) → ((a : A) → P a → Q a) → (xs : List A) → AllByRecursion P xs → AllByRecursion Q xs
 every_map P Q f [] h = tt

@@ -1,5 +1,5 @@
 -- A rule that is broken first is broken first at one place alone.
-use Rattle.std.proofs.Common.{◌≡◌, ◌∙◌, sym, ℕ, ◌&&◌, ◌||◌, ◌==◌, nat_eq, nat_lt, Bool, true, false, Option, Some, None, ◌⊎◌, inl, inr, refl, arith, ap}
+use Rattle.std.proofs.Common.{◌≡◌, ◌∙◌, sym, ℕ, false, Option, Some, None, inl, inr, refl, arith, ap}
 use Rattle.std.proofs.lemmas.Bool.Decides.{nat_tests}
 use Rattle.rw_base.specs.declared.place.Place.{Place}
 use Rattle.rw_base.specs.declared.rule.Rule.{Rule}

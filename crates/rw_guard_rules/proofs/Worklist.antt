@@ -1,9 +1,9 @@
 -- A worklist's answer and ranks: where no functions wait for one another for ever there are ranks, and where there are ranks none do.
-use Rattle.std.proofs.Common.{◌≡◌, ℕ, zero, suc, ◌+◌, ◌≤◌, ◌<◌, List, [], ◌∷◌, ◌++◌, length, Option, Some, None, Bool, true, false, ◌||◌, if◌then◌else◌, ◌⊎◌, inl, inr, refl, arith, ap, sym, ◌∙◌, subst}
+use Rattle.std.proofs.Common.{◌≡◌, ℕ, zero, suc, ◌+◌, ◌≤◌, ◌<◌, List, [], ◌∷◌, length, Option, Some, None, Bool, true, false, ◌||◌, if◌then◌else◌, ◌⊎◌, inl, inr, refl, arith, sym, ◌∙◌, subst}
 use Rattle.std.specs.List.{list_any, AllByRecursion}
 use Rattle.std.proofs.lemmas.Bool.{cases_lt}
 use Rattle.rw_core_flat.specs.Programs.{FlatFunction, function_at}
-use Rattle.rw_guard_rules.specs.Signals.{Step, Held, calls_in, Guarded, CallsEnd}
+use Rattle.rw_guard_rules.specs.Signals.{Held, calls_in, Guarded, CallsEnd}
 use Rattle.rw_guard_rules.specs.Rules.{AnyByRecursion, guarded_by, IsMustSignal, open_callees, callees_of, graph_of, Stuck}
 use Rattle.rw_guard_rules.proofs.Ranks.{guarded_decided}
 

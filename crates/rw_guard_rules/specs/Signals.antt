@@ -1,8 +1,8 @@
 -- What a must-signal term is; the calls that a term holds, each with its path; guarded calls and calls in tail position; and ranks.
 use Rattle.std.specs.List.{AllByRecursion}
-use Rattle.std.specs.Prelude.{◌≡◌, ℕ, ◌≤◌, ◌<◌, List, [], ◌∷◌, ◌++◌, Option, Some, None, ◌⊎◌}
+use Rattle.std.specs.Prelude.{◌≡◌, ℕ, ◌≤◌, ◌<◌, List, [], ◌∷◌, ◌++◌, Some, ◌⊎◌}
 use Rattle.rw_core_flat.specs.Terms.{FlatTerm, local_term, built_term, case_term, let_term, call_term, mark_term, return_term, get_term, put_term, lift_term, bind_term, signal_term, extrude_term, FlatTerms, no_terms, more_terms}
-use Rattle.rw_core_flat.specs.Terms.{FlatPattern, FlatPatterns, FlatLets, no_lets, more_lets, FlatRows, no_rows, more_rows, FlatArms, body_arm, no_arms, more_arms}
+use Rattle.rw_core_flat.specs.Terms.{FlatPatterns, FlatLets, no_lets, more_lets, FlatRows, no_rows, more_rows, FlatArms, body_arm, no_arms, more_arms}
 use Rattle.rw_core_flat.specs.Programs.{FlatFunction, function_at}
 
 -- == Must-signal: the least set that is closed under these rules ==

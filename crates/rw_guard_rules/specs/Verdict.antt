@@ -1,6 +1,6 @@
 -- The rules E19 to E25 on a flat program: where each is broken; and the verdict, which is the first that is broken, at its first place. Each is
 -- read where those before it are kept.
-use Rattle.std.specs.Prelude.{◌≡◌, ℕ, zero, suc, ◌+◌, ◌<◌, Bool, true, false, List, [], ◌∷◌, ◌++◌, Option, Some, None, ◌⊎◌}
+use Rattle.std.specs.Prelude.{◌≡◌, ℕ, suc, ◌+◌, ◌<◌, Bool, true, false, List, [], ◌∷◌, ◌++◌, Option, Some, None, ◌⊎◌}
 use Rattle.rw_base.specs.declared.place.Place.{Place}
 use Rattle.rw_base.specs.declared.rule.Rule.{Rule}
 use Rattle.rw_base.specs.declared.rule.Rule.TheVariants.{E19, E20, E21, E22, E23, E24, E25}

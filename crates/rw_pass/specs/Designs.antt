@@ -1,5 +1,5 @@
 -- A design as a representation of devices.
-use Rattle.std.specs.Prelude.{◌≡◌, ℕ, ◌+◌, List, [], ◌∷◌, map, sum_by, Ok}
+use Rattle.std.specs.Prelude.{◌≡◌, ℕ, ◌+◌, List, sum_by, Ok}
 use Rattle.vh_tree.specs.declared.stmt.VStmt.{VStmt}
 use Rattle.vh_tree.specs.declared.stmt.VStmt.TheOpen.{VStmt-F, Assign, If, Branch-F}
 use Rattle.vh_tree.specs.declared.stmt.VStmt.TheFolds.{fold-VStmt}

@@ -1,9 +1,9 @@
 -- Lines that encode values stand before those that are left.
-use Rattle.std.proofs.Common.{◌≡◌, ℕ, suc, ◌+◌, List, [], ◌∷◌, ◌++◌, Bool, refl, sym, arith, subst, append_assoc}
+use Rattle.std.proofs.Common.{◌≡◌, ℕ, suc, ◌+◌, List, [], ◌∷◌, ◌++◌, Bool, sym, arith, subst, append_assoc}
 use Rattle.rw_core.specs.declared.types.DataTy.{DataTy}
 use Rattle.rw_core.specs.Values.{Val}
 use Rattle.rw_core.specs.Bits.{Encodes}
-use Rattle.rw_trace.specs.TraceValues.{AreEncoded, FirstWithoutValue, this_line, later_line}
+use Rattle.rw_trace.specs.TraceValues.{AreEncoded, FirstWithoutValue, later_line}
 
 -- these lines are left, behind lines that encode these values: what holds of them holds of all
 pub record Left (types : List DataTy) (ty : ℕ) (all left : List (List Bool)) (done : List Val) (number : ℕ) : Type 0 where

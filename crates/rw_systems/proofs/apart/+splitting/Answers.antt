@@ -1,5 +1,5 @@
 -- What is no system is a leaf, and arguments are put before others.
-use Rattle.std.proofs.Common.{rules, ◌≡◌, IfOk, map, [], ◌++◌, sym, ◌∙◌, ap, subst, arith}
+use Rattle.std.proofs.Common.{◌≡◌, IfOk, map, [], ◌++◌, sym, ◌∙◌, ap, subst, arith}
 use Rattle.std.proofs.lemmas.Grind.{common_steps}
 use Rattle.rw_tree.specs.Views.{itself}
 use Rattle.rw_tree.specs.Trees.{application, expression_parts}

@@ -1,5 +1,5 @@
 -- Each turn takes the value of one line.
-use Rattle.std.proofs.Common.{rules, ◌≤◌, ◌<◌, length, map, drop, ◌≡◌, ℕ, ◌+◌, List, [], ◌∷◌, ◌++◌, append-nil, sym, subst, arith}
+use Rattle.std.proofs.Common.{rules, ◌≤◌, ◌<◌, length, map, drop, ◌≡◌, ◌+◌, [], ◌∷◌, ◌++◌, append-nil, subst, arith}
 use Rattle.std.proofs.lemmas.Grind.{common_steps}
 use Rattle.rw_core.specs.Values.{plain}
 use Rattle.rw_trace.specs.TraceValues.{AreEncoded, FirstWithoutValue, this_line}
