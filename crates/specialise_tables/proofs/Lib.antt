@@ -1,0 +1,4 @@
+pub mod Goes
+pub mod Looked
+pub mod Way
+pub mod Opened
