@@ -13,4 +13,6 @@ mod task;
 mod walk;
 
 pub use node::Node;
-pub use walk::{nodes, nodes_of_binding, nodes_of_pattern, nodes_of_patterns};
+pub use walk::{
+    nodes, nodes_of_binding, nodes_of_declaration, nodes_of_pattern, nodes_of_patterns,
+};

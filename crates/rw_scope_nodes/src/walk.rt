@@ -58,6 +58,18 @@ pub fn nodes<'a, A: Copy + Drop>(
     Ok(found)
 }
 
+/// The nodes of one declaration.
+pub fn nodes_of_declaration<'a, A: Copy + Drop>(
+    alloc: Global,
+    decl: &'a Decl<A>,
+) -> Result<Vec<Node<'a, A>>, OutOfMemory>
+    ensures { IfOk result (λ found. plain_nodes found.items ≡ declaration_nodes (declaration itself decl.now)) }
+{
+    let mut found = Vec::new(alloc);
+    walk_declaration(alloc, decl, &mut found)?;
+    Ok(found)
+}
+
 /// The nodes of one local binding.
 pub fn nodes_of_binding<'a, A: Copy + Drop>(
     alloc: Global,
