@@ -1,0 +1,3 @@
+-- The words that public contracts rest on.
+pub mod Named
+pub mod Typed
