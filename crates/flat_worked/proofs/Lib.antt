@@ -2,3 +2,4 @@
 pub mod Guarding
 pub mod Flattening
 pub mod Weighing
+pub mod Refusing

@@ -1,3 +1,4 @@
 -- The programs that are worked.
 pub mod Toggle
 pub mod TypedToggle
+pub mod Broken
