@@ -1,7 +1,6 @@
 -- The instances of a typed program have one flat program at most.
-use Rattle.std.proofs.Common.{◌≡◌, ℕ, List, [], ◌∷◌, ◌++◌, length, Option, Some, None, refl, ap, sym, ◌∙◌, subst}
+use Rattle.std.proofs.Common.{◌≡◌, ℕ, List, [], ◌∷◌, length, Option, Some, None, refl, ap, sym, ◌∙◌, subst}
 use mathlib.Core.Path.{subst₂}
-use Rattle.std.specs.List.{list_any}
 use Rattle.rw_base.specs.declared.place.Place.{Place}
 use Rattle.rw_scope_rules.specs.declared.binding.Bound.{Bound}
 use Rattle.rw_tree.specs.Trees.{Expression, Alternatives, alternative_parts}
@@ -13,22 +12,12 @@ use Rattle.rw_types_rules.specs.Schemes.{World}
 use Rattle.rw_types_rules.specs.TypedTrees.{TypedNode}
 use Rattle.rw_core_flat.specs.Terms.{let_term}
 use Rattle.rw_core_flat.specs.Programs.{FlatFunction}
-use Rattle.specialise_rules.specs.Instances.{Instance, same_type, declared_in}
-use Rattle.specialise_rules.specs.Tables.{Sees, sees_nothing, sees_known, sees_new}
+use Rattle.specialise_rules.specs.Instances.{Instance, declared_in}
+use Rattle.specialise_laws.proofs.Seeing.{sees_once}
 use Rattle.inline_ho_rules.specs.Meants.{no_meants, flats, first_meants, later_meants}
 use Rattle.inline_ho_rules.specs.TypedFlattening.{typed_binding, patterns_before, IsBody, IsTypedFlat}
 use Rattle.inline_ho_rules.specs.TypedPrograms.{Origin, whole, part, numbered_system, IsOfType, declared_place, origins, function_of, clauses_of, number_of, program, IsOf, IsOfDeclaration, IsOfPart, AreOf, first_declared, start_body, IsFlatOf}
-use Rattle.inline_ho_laws.proofs.Once.{clash, flat_once, body_once, placed_once}
-
--- == Tables ==
-
-sees_once : {world : World} {table types first second : List Ty} → Sees world table types first → Sees world table types second → first ≡ second
-sees_once sees_nothing sees_nothing = refl
-sees_once (sees_known e f) (sees_known e' g) = sees_once f g
-sees_once (sees_known {table = table} {t = t} e f) (sees_new e' h g) = absurd (clash (list_any (same_type t) table) e e')
-sees_once (sees_new e h f) (sees_known {table = table} {t = t} e' g) = absurd (clash (list_any (same_type t) table) e' e)
-sees_once {world = world} (sees_new {types = types} {t = t} e h f) (sees_new {after = after} e' k g) =
-    let s = sees_once h k in sees_once f (subst (λ z. Sees world (z ++ t ∷ []) types after) (sym s) g)
+use Rattle.inline_ho_laws.proofs.Once.{flat_once, body_once, placed_once}
 
 -- == Functions ==
 

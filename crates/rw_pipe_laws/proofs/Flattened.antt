@@ -24,11 +24,8 @@ use Rattle.inline_ho_rules.specs.TypedPrograms.{IsFlatOf, kind_of, declared_plac
 use Rattle.inline_ho_rules.specs.OrderRules.{KeepsOrders, BreaksOrders, BreaksExpansion, ExpandsWithin, most_flat_nodes}
 use Rattle.rw_front.specs.Stages.{IsExactAt}
 use Rattle.rw_front.specs.Verdict.{reported}
-use Rattle.rw_pipe_laws.proofs.Instances.{in_order}
+use Rattle.rw_pipe_laws.proofs.Instances.{in_order, same_held}
 use Rattle.rw_pipe_rules.specs.Verdict.{InstancedProgram, world_in, place_of_instance, JudgedProgram, numbered_table, type_of_declared, IsFlat, AllKeepOrders, Expands, BreaksFlattening, Flattens, IsGuardedAs}
-
-same_held : {A : Type 0} (x : Option A) (a b : A) → x ≡ Some a → x ≡ Some b → a ≡ b
-same_held x a b e h = cc
 
 -- of two first ones
 abbrev FirstOf : (ℕ → Instance → Type 0) → Type 0

@@ -59,7 +59,7 @@ slice_get-front [] ys (suc n) x h = absurd (cc)
 slice_get-front (y ∷ xs) ys zero x h = h
 slice_get-front (y ∷ xs) ys (suc n) x h = slice_get-front xs ys n x h
 
-same_held : {A : Type 0} (x : Option A) (a b : A) → x ≡ Some a → x ≡ Some b → a ≡ b
+pub same_held : {A : Type 0} (x : Option A) (a b : A) → x ≡ Some a → x ≡ Some b → a ≡ b
 same_held x a b e h = cc
 
 module _ (world : World) (typed : List (Declaration TypedNode)) where
