@@ -7,7 +7,7 @@ use rw_base::OutOfMemory;
 use std::alloc::Global;
 
 /// Closed data types by their numbers, each once, behind the types of its fields, in order of first sight; and which types were
-/// looked at, so that each is looked at once.
+/// looked at: a data type is looked at once, and another type again behind its parts, and then no more.
 #[derive(Drop)]
 pub struct Table {
     pub numbers: Vec<u32>,
