@@ -1,5 +1,5 @@
 -- What the first has, if anything, the second has as f sees it; so with rows that are tried.
-use Rattle.std.proofs.Common.{◌≡◌, ◌∙◌, refl, zero, suc, Bool, true, false, if◌then◌else◌, Option, Some, None}
+use Rattle.std.proofs.Common.{◌≡◌, refl, zero, suc, Bool, true, false, if◌then◌else◌, Option, Some, None}
 use Rattle.std.specs.Option.{IfSome}
 use Rattle.rw_core.specs.Values.{Val, val}
 use Rattle.rw_core.specs.Options.{◌>>=◌, Grows}

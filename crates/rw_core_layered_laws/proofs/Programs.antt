@@ -1,22 +1,21 @@
 -- Functions in their places, and systems.
-use Rattle.std.proofs.Common.{◌≡◌, ◌∙◌, refl, sym, ap, subst, arith, ℕ, zero, suc, ◌+◌, ◌-◌, ◌≤◌, nat_eq, Bool, true, false, if◌then◌else◌, List, [], ◌∷◌, ◌++◌, map, length, slice_get, Option, Some, None}
+use Rattle.std.proofs.Common.{◌≡◌, ◌∙◌, refl, ap, subst, arith, ℕ, zero, suc, ◌+◌, ◌-◌, ◌≤◌, nat_eq, Bool, true, false, if◌then◌else◌, List, [], ◌∷◌, ◌++◌, map, length, slice_get, Option, Some, None}
 use Rattle.std.proofs.lemmas.Bool.Decides.{nat_tests}
 use Rattle.rw_core.specs.Values.{Val}
 use Rattle.rw_core.specs.Options.{◌>>=◌, Grows}
-use Rattle.rw_core.specs.Eventually.{Eventually}
 use Rattle.rw_core.specs.Traces.{End, waits, finished, shown}
 use Rattle.rw_core.specs.Systems.{System, leaf, side_by_side, fed_back, Follows, system_outputs}
 use Rattle.rw_core.proofs.Options.{grows_same}
 use Rattle.rw_core.proofs.Systems.{system_follows}
-use Rattle.rw_core_flat.specs.Meaning.{Mode, valued, tracing, Answer, a_value, as_value, as_trace, meaning}
+use Rattle.rw_core_flat.specs.Meaning.{valued, tracing, Answer, a_value, as_value, as_trace}
 use Rattle.rw_core_flat.specs.Programs.{FlatFunction, function_at, call_within, read_by, outputs_within, FlatDenotes}
 use Rattle.rw_core_flat.proofs.Growing.{call_grows, outputs_grow}
 use Rattle.rw_core_layered.specs.Pures.{PureTerm, Calling, value}
 use Rattle.rw_core_layered.specs.Calls.{Function, no_calls, and_function, calls_from, calls_of}
 use Rattle.rw_core_layered.specs.Devices.{Device, DeviceTrace, traced, device_at, trace_within}
 use Rattle.rw_core_layered.specs.Layered.{LayeredProgram, read_devices, layered_within, LayeredDenotes}
-use Rattle.rw_core_layered.specs.Embedding.{function_of_pure, function_of_device, flat_functions, behind_pures, flat_layered}
-use Rattle.rw_core_layered_laws.proofs.By.{By, by_on, by_grow, by_value, by_if}
+use Rattle.rw_core_layered.specs.Embedding.{function_of_pure, function_of_device, flat_functions, behind_pures}
+use Rattle.rw_core_layered_laws.proofs.By.{By, by_grow, by_if}
 use Rattle.rw_core_layered_laws.proofs.Terms.{value_flat, without_layers, as_answer, device_flat}
 
 equal_numbers : (m n : ℕ) → nat_eq m n ≡ true → m ≡ n

@@ -1,9 +1,9 @@
 -- Pure terms and terms of devices have as flat terms what they have by themselves.
-use Rattle.std.proofs.Common.{◌≡◌, refl, ℕ, ◌+◌, List, [], ◌∷◌, ◌++◌, Option, Some, None}
+use Rattle.std.proofs.Common.{refl, ℕ, ◌+◌, List, [], ◌∷◌, ◌++◌, Option, Some, None}
 use Rattle.rw_core.specs.Values.{Val, val, vals}
 use Rattle.rw_core.specs.Options.{◌>>=◌}
-use Rattle.rw_core.specs.Traces.{End, waits, finished, Trace, and_on}
-use Rattle.rw_meaning.specs.Options.{Tried, stuck, tried, what_is_taken, and_try}
+use Rattle.rw_core.specs.Traces.{End, waits, finished, and_on}
+use Rattle.rw_meaning.specs.Options.{stuck, tried, what_is_taken}
 use Rattle.rw_core_flat.specs.Meaning.{Mode, valued, tracing, Answer, a_value, traced as traced_answer, as_value, as_trace, of_trace, goes_on, if_holds, matched, row_matched, value_at, meaning, rows_meaning, arms_meaning}
 use Rattle.rw_core_flat.specs.Meaning as flat
 use Rattle.rw_core_layered.specs.Pures.{PureTerm, pure_local, pure_con, pure_case, pure_let, pure_call, PureTerms, no_pures, more_pures, PureLets, no_pure_lets, more_pure_lets}
@@ -11,7 +11,7 @@ use Rattle.rw_core_layered.specs.Pures.{PureRows, no_pure_rows, more_pure_rows, 
 use Rattle.rw_core_layered.specs.Devices.{DeviceTerm, device_return, device_signal, device_bind, device_case, device_let, device_call, DeviceRows, no_device_rows, more_device_rows, DeviceArms, device_body, no_device_arms, more_device_arms}
 use Rattle.rw_core_layered.specs.Devices.{DeviceTrace, Tracing, traced, rows_traced, arms_traced}
 use Rattle.rw_core_layered.specs.Embedding.{flat_pure, flat_pures, flat_lets, flat_rows, flat_arms, flat_device, flat_device_rows, flat_device_arms}
-use Rattle.rw_core_layered_laws.proofs.By.{By, same, by_same, by_on, by_value, by_if, Goes, goes_same, goes_try, goes_or, goes_tried, by_taken, goes_holds}
+use Rattle.rw_core_layered_laws.proofs.By.{By, same, by_same, by_on, by_value, Goes, goes_same, goes_try, goes_or, goes_tried, by_taken, goes_holds}
 
 -- == Answers ==
 

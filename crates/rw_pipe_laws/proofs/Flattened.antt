@@ -1,5 +1,5 @@
 -- One flat program of instances, or one first that breaks E18; and one verdict on it.
-use Rattle.std.proofs.Common.{◌≡◌, ◌∙◌, refl, sym, ap, subst, arith, ℕ, zero, suc, ◌+◌, ◌<◌, ◌≤◌, List, [], ◌∷◌, ◌++◌, take, slice_get, Option, Some, None, Result, Ok, Err, inl, inr, ◌⊎◌, ⊎_elim}
+use Rattle.std.proofs.Common.{◌≡◌, ◌∙◌, refl, sym, ap, subst, arith, ℕ, zero, suc, ◌+◌, ◌<◌, ◌≤◌, List, [], ◌∷◌, ◌++◌, take, slice_get, Option, Some, None, Ok, Err, inl, inr, ⊎_elim}
 use Rattle.std.specs.List.{flat_map, sum_by}
 use Rattle.std.proofs.lemmas.List.Sums.{sum_by-cons}
 use Rattle.rw_base.specs.declared.place.Place.{Place}
@@ -17,11 +17,11 @@ use Rattle.rw_core_flat.specs.Programs.{FunctionKind, device, FlatFunction, Flat
 use Rattle.rw_guard_rules.specs.Rules.{nodes}
 use Rattle.rw_guard_rules.specs.Verdict.{GuardsAs}
 use Rattle.specialise_rules.specs.Instances.{Instance, declared_in}
-use Rattle.specialise_rules.specs.Tables.{IsTableOf, number_in}
+use Rattle.specialise_rules.specs.Tables.{number_in}
 use Rattle.specialise_laws.proofs.Seeing.{sees_once}
 use Rattle.inline_ho_rules.specs.TypedFlattening.{typed_binding}
 use Rattle.inline_ho_rules.specs.TypedPrograms.{IsFlatOf, kind_of, declared_place, first_declared, start_body, Origin, parts_of, whole_if_low, type_if, others_of, origins, AreOf}
-use Rattle.inline_ho_rules.specs.OrderRules.{KeepsOrders, BreaksOrders, BreaksExpansion, ExpandsWithin, most_flat_nodes}
+use Rattle.inline_ho_rules.specs.OrderRules.{BreaksOrders, ExpandsWithin, most_flat_nodes}
 use Rattle.rw_front.specs.Stages.{IsExactAt}
 use Rattle.rw_front.specs.Verdict.{reported}
 use Rattle.rw_pipe_laws.proofs.Instances.{in_order, same_held}

@@ -1,7 +1,6 @@
 -- When a text is right for a source: the design that it spells shows what the source denotes.
 use Rattle.std.specs.Prelude.{◌≡◌, ℕ, List, Ok}
 use Rattle.std.specs.List.{AllByRecursion}
-use Rattle.rw_base.specs.declared.bit.Bit9.{Bit9}
 use Rattle.rw_scope_rules.specs.Bindings.{bound_program}
 use Rattle.rw_core.specs.Values.{Val}
 use Rattle.rw_core.specs.Bits.{width_of, IsValue}

@@ -1,11 +1,10 @@
 -- The verdict on a source by all rules, E01 to E25: the program that it is, with its types, instances and flat program, or the first rule that it breaks
 -- and where. Each rule is read where those before it are kept.
-use Rattle.std.specs.Prelude.{◌≡◌, ◌⊎◌, ◌≤◌, ℕ, List, [], ◌∷◌, map, slice_get, Option, Some, None, Ok, Err}
+use Rattle.std.specs.Prelude.{◌≡◌, ◌⊎◌, ◌≤◌, ℕ, List, [], slice_get, Option, Some, None, Ok, Err}
 use Rattle.std.specs.List.{sum_by}
 use Rattle.rw_base.specs.declared.place.Place.{Place}
 use Rattle.rw_base.specs.declared.place.Span.{Span}
 use Rattle.rw_base.specs.declared.rule.Rule.TheVariants.{E17, E18}
-use Rattle.rw_base.specs.declared.fail.Refusal.{Refusal}
 use Rattle.rw_tree.specs.Declarations.{Declaration, function_declaration, PlainProgram}
 use Rattle.rw_scope_rules.specs.Bindings.{bound_program}
 use Rattle.rw_core.specs.declared.types.DataTy.{DataTy}
