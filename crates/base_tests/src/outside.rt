@@ -78,6 +78,16 @@ fn a_sink_in_memory_fails_at_a_listed_put(rt: HostRuntime) -> Result<(), Fail> {
 }
 
 #[test]
+fn a_sink_in_memory_without_failing_puts_keeps_all(rt: HostRuntime) -> Result<(), Fail> {
+    let alloc = rt.alloc();
+    let mut sink = MemorySink::new(alloc, Vec::new(alloc));
+    assert!(rt; sink.put(b"ab").is_ok());
+    assert!(rt; sink.put(b"c").is_ok());
+    assert_eq!(rt; sink.bytes(), b"abc".as_slice());
+    Ok(())
+}
+
+#[test]
 fn files_are_saved_and_loaded(rt: HostRuntime) -> Result<(), Fail> {
     let mut store = FileStore::new(&rt);
     assert!(rt; store.save("rw_base_test.txt", b"some bytes").is_ok());
